@@ -1,6 +1,6 @@
 -- 01, "Units, all whole numbers": each limit by its name.
 -- Assumes nothing.
-use Prim.Native.Nat.{ℕ, _^_}
+use Prim.Native.Nat.{ℕ, _+_, _^_}
 
 -- the largest volume and the largest load
 abbrev pub largest : ℕ
@@ -25,4 +25,4 @@ highestDepth = 200
 
 -- how many depths the grid has
 abbrev pub gridDepths : ℕ
-gridDepths = 201
+gridDepths = highestDepth + 1

@@ -55,6 +55,12 @@ impl Depth {
     }
 }
 
+// Phosphorus or nitrogen.
+pub enum Nutrient {
+    P,
+    N,
+}
+
 // The soil columns that Tables 3-1, 3-2 and 3-4 share.
 pub enum Column {
     A,
