@@ -1,1 +1,5 @@
 pub mod Text
+pub mod First
+pub mod Line
+pub mod Table
+pub mod Sum
