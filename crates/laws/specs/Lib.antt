@@ -3,3 +3,4 @@ pub mod First
 pub mod Line
 pub mod Table
 pub mod Sum
+pub mod Turn

@@ -1,0 +1,126 @@
+-- Laws of the judging of a record, sub-area by sub-area.
+-- Assumes nothing.
+use Prim.Native.Nat.{ℕ, _+_, _≤_, _<_}
+use mathlib.Core.Bool.{Bool, true, false, not}
+use mathlib.Core.Path.{_≡_, refl, sym, _∙_, ap}
+use mathlib.Core.List.{List, [], _∷_}
+use native.Mathlib.Omega.{arith}
+use lib.Dec.{leb}
+use lib.ListN.{drop, getD}
+use borrow.Author.Tests.{le-leb, lt-leb, leb-true, not-true, not-false}
+use Rattle.laws.specs.Sum.{sumOf}
+use Rattle.laws.specs.Turn.{inTurn}
+use Rattle.refusal.specs.declared.Refusal.{Refusal}
+use Rattle.refusal.specs.declared.Refusal.the-variants.{UnfitSubArea, TotalAreaPassed, SiteFull}
+use Rattle.units.specs.Limits.{mostArea}
+use Rattle.units.specs.declared.Area.{Area}
+use Rattle.site.specs.declared.SubArea.{SubArea}
+use Rattle.site.specs.declared.Site.{Site}
+use Rattle.site.specs.declared.AreaAnswer.{AreaAnswer}
+use Rattle.site.specs.declared.AreaAnswer.the-variants.{Granted, Refused}
+use Rattle.site.specs.Parts.{partsOf, areaOf, blank, mostParts, totalArea}
+use Rattle.site.specs.Judging.{fits, hasRoom, judgedFrom, judged, afterJudging, Fine}
+use Rattle.site.proofs.Parts.{Whole, part-at, none-left}
+
+-- The sub-areas before place i passed and have the total area; what is left decides.
+pub record Running (s : Site) (i total : ℕ) : Type 0 where
+  pub whole : Whole s
+  pub small : total ≤ mostArea
+  pub rest : judgedFrom total (drop i (partsOf s)) ≡ judged s
+
+-- A count above 32 is refused.
+pub overfull : (s : Site) → mostParts < s .count → Refused SiteFull ≡ judged s
+unfolding judged
+overfull s h = simp (lt-leb _ _ h)
+
+pub starts : (s : Site) → Whole s → Running s 0 0
+unfolding judged
+starts s w = record { whole = w; small = omega arith; rest = simp (le-leb _ _ (w .count)) }
+
+-- the judging of what is left, with the sub-area at place i told apart
+turn : (s : Site) (i total : ℕ) → Running s i total → i < s .count
+    → judgedFrom total (getD (s .parts) i blank ∷ drop (i + 1) (partsOf s)) ≡ judged s
+turn s i total r h = rw (part-at s i (r .whole) h) at (r .rest)
+
+-- A sub-area that does not fit is refused.
+pub unfit : (s : Site) (i total : ℕ) {b : Bool} → Running s i total → i < s .count
+    → b ≡ fits (getD (s .parts) i blank) → not b ≡ true → Refused UnfitSubArea ≡ judged s
+unfolding judgedFrom
+unfit s i total r h e f = simp (sym e ∙ not-true _ f) at (turn s i total r h)
+
+-- One that fits and finds no room is refused.
+pub crowded : (s : Site) (i total : ℕ) {b d : Bool} → Running s i total → i < s .count
+    → b ≡ fits (getD (s .parts) i blank) → not b ≡ false → d ≡ hasRoom total (areaOf (getD (s .parts) i blank)) → not d ≡ true
+    → Refused TotalAreaPassed ≡ judged s
+unfolding judgedFrom
+crowded s i total r h e f e' f' = simp (sym e ∙ not-false _ f, sym e' ∙ not-true _ f') at (turn s i total r h)
+
+-- One that fits and finds room passes.
+pub passes : (s : Site) (i total : ℕ) {b d : Bool} → Running s i total → i < s .count
+    → b ≡ fits (getD (s .parts) i blank) → not b ≡ false → d ≡ hasRoom total (areaOf (getD (s .parts) i blank)) → not d ≡ false
+    → Running s (i + 1) (total + areaOf (getD (s .parts) i blank))
+unfolding judgedFrom
+passes s i total r h e f e' f' =
+    record {
+      whole = r .whole;
+      small = leb-true _ _ (sym e' ∙ not-false _ f');
+      rest = simp (sym e ∙ not-false _ f, sym e' ∙ not-false _ f') at (turn s i total r h);
+    }
+
+-- Where none is left, the total area is granted.
+pub ends : (s : Site) (i total : ℕ) → Running s i total → s .count ≤ i → Granted (record { 0 = total }) ≡ judged s
+unfolding judgedFrom
+ends s i total r h = rw (none-left s i (r .whole) h) at (r .rest)
+
+never-granted : {why : Refusal} {a : Area} → Refused why ≡ Granted a → ⊥
+never-granted e = let z : _≡_ {A = ℕ} 0 1 = cc in omega arith
+
+-- Where the total area is granted, each test passed.
+passed : (b d : Bool) (x : AreaAnswer) (a : Area) → inTurn Refused x ((b, UnfitSubArea) ∷ (d, TotalAreaPassed) ∷ []) ≡ Granted a
+    → (b ≡ true) × ((d ≡ true) × (x ≡ Granted a))
+passed true true x a e = (refl, (refl, e))
+passed true false x a e = absurd (never-granted e)
+passed false d x a e = absurd (never-granted e)
+
+-- What is granted from a running total on is this total with the sub-areas' area, and at most the largest.
+from-total : (total : ℕ) (ps : List SubArea) (a : Area) → total ≤ mostArea → judgedFrom total ps ≡ Granted a
+    → (total + totalArea ps ≡ a .0) × (a .0 ≤ mostArea)
+unfolding judgedFrom sumOf
+from-total total [] a h e =
+    let z : total ≡ a .0 = ap (afterJudging (λ why. 0) (λ n. n)) e in
+    (omega arith, omega arith)
+from-total total (p ∷ ps) a h e =
+    let t = passed (fits p) (hasRoom total (areaOf p)) (judgedFrom (total + areaOf p) ps) a e in
+    let l = leb-true (total + areaOf p) mostArea (t .1 .0) in
+    let n = from-total (total + areaOf p) ps a l (t .1 .1) in
+    (omega arith, n .1)
+
+granted-count : (s : Site) (a : Area) (b : Bool) → leb (s .count) mostParts ≡ b
+    → inTurn Refused (judgedFrom 0 (partsOf s)) ((b, SiteFull) ∷ []) ≡ Granted a
+    → (s .count ≤ mostParts) × (judgedFrom 0 (partsOf s) ≡ Granted a)
+granted-count s a true f e = (leb-true (s .count) mostParts f, e)
+granted-count s a false f e = absurd (never-granted e)
+
+-- What is granted is the total area of the sub-areas.
+pub judged-total : (s : Site) (a : Area) → judged s ≡ Granted a → totalArea (partsOf s) ≡ a .0
+unfolding judged
+judged-total s a e =
+    let g = granted-count s a (leb (s .count) mostParts) refl e in
+    let t = from-total 0 (partsOf s) a (omega arith) (g .1) in
+    omega arith
+
+-- A record that is judged fine has at most 32 sub-areas and at most the largest area.
+pub judged-fine : (s : Site) (a : Area) → judged s ≡ Granted a → Fine s
+unfolding judged
+judged-fine s a e =
+    let g = granted-count s a (leb (s .count) mostParts) refl e in
+    let t = from-total 0 (partsOf s) a (omega arith) (g .1) in
+    record { count = g .0; total = omega arith }
+
+-- A call whose record is judged: a fine record goes on with its total area, and a refused one stops the call.
+module _ {A : Type 0} (refused : Refusal → A) (onward : ℕ → A) (s : Site) {found : AreaAnswer} (e : found ≡ judged s) where
+  pub goes-on : {total : Area} → found ≡ Granted total → onward (total .0) ≡ afterJudging refused onward (judged s)
+  goes-on f = simp (sym e ∙ f)
+
+  pub stops : {why : Refusal} → found ≡ Refused why → refused why ≡ afterJudging refused onward (judged s)
+  stops f = simp (sym e ∙ f)

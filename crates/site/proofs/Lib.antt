@@ -1,0 +1,5 @@
+pub mod Parts
+pub mod Tests
+pub mod Judging
+pub mod Adding
+pub mod Sums

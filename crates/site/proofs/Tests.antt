@@ -1,0 +1,45 @@
+-- The tests of 2 and 3, as the code makes them.
+-- Assumes nothing.
+use Prim.Native.Nat.{ℕ, _+_, _-_, _≤_, _<_}
+use mathlib.Core.Bool.{Bool, true, false, not, _&&_}
+use mathlib.Core.Path.{_≡_, refl, sym, _∙_}
+use native.Mathlib.Omega.{arith}
+use native.Mathlib.Nat.{lt-of-le-of-lt}
+use mir.Syntax.{w64}
+use mir.Val.{Fits}
+use lib.Dec.{leb, lit<}
+use borrow.Author.Tests.{le-leb, lt-leb, leb-true, leb-false, not-false}
+use Rattle.units.specs.Limits.{mostArea}
+use Rattle.site.specs.declared.SubArea.{SubArea}
+use Rattle.site.specs.Soils.{suits}
+use Rattle.site.specs.Parts.{areaOf}
+use Rattle.site.specs.Judging.{fits, hasRoom}
+
+-- A total past the largest leaves no room.
+pub no-room : (total area : ℕ) → mostArea < total → false ≡ hasRoom total area
+no-room total area h = sym (lt-leb (total + area) mostArea (omega arith))
+
+-- Another total leaves what is missing to the largest.
+pub room : (total area : ℕ) → total ≤ mostArea → leb area (mostArea - total) ≡ hasRoom total area
+room total area h = told (leb area (mostArea - total)) refl
+  where
+    told : (b : Bool) → leb area (mostArea - total) ≡ b → b ≡ hasRoom total area
+    told true e = sym (le-leb (total + area) mostArea (let l = leb-true area (mostArea - total) e in omega arith))
+    told false e = sym (lt-leb (total + area) mostArea (let l = leb-false area (mostArea - total) e in omega arith))
+
+-- An area below 1 does not fit.
+pub too-small : (p : SubArea) → areaOf p < 1 → false ≡ fits p
+too-small p h = simp (lt-leb _ _ h)
+
+-- An area past the largest does not fit.
+pub too-large : (p : SubArea) → 1 ≤ areaOf p → mostArea < areaOf p → false ≡ fits p
+too-large p l h = simp (le-leb _ _ l, lt-leb _ _ h)
+
+-- Between the two the soil decides.
+pub by-soil : (p : SubArea) (b : Bool) → 1 ≤ areaOf p → areaOf p ≤ mostArea → b ≡ suits (p .cover) (p .soil) → b ≡ fits p
+by-soil p b l h e = simp (le-leb _ _ l, le-leb _ _ h) e
+
+-- Where there is room, the sum is no number of more than 64 bits.
+pub sum-fits : (total area : ℕ) {b : Bool} → b ≡ hasRoom total area → not b ≡ false → Fits w64 (total + area)
+sum-fits total area e f =
+    record { fits = lt-of-le-of-lt (leb-true (total + area) mostArea (sym e ∙ not-false _ f)) (lit< tt) }

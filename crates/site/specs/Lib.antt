@@ -1,0 +1,4 @@
+pub mod Soils
+pub mod Parts
+pub mod Judging
+pub mod Adding

@@ -1,0 +1,269 @@
+// 01, "Site and load": sub-areas, the site record that holds them, the judging of a record, and adding to it.
+ghost use mathlib.Core.Path.{_≡_};
+ghost use Rattle.site.specs.Soils.{named, suits, loadColumn, runoffColumn};
+ghost use Rattle.site.specs.Parts.{partsOf, imperviousOf, imperviousArea, emptySite};
+ghost use Rattle.site.specs.Judging.{fits, hasRoom, judged, Fine, impervious};
+ghost use Rattle.site.specs.Adding.{addedTo, added};
+use refusal::Refusal;
+use units::Area;
+use units::Column;
+
+pub enum LandUse {
+    Com,
+    Ind,
+    Hdr,
+    Mdr,
+    Ldr,
+    Hwy,
+    For,
+    Open,
+    Ag,
+}
+
+// Impervious or pervious.
+pub enum Cover {
+    Imp,
+    Per,
+}
+
+pub enum Soil {
+    A,
+    B,
+    C,
+    CD,
+    D,
+    // Not known; it stays U in the record.
+    U,
+    // `-`, under impervious cover.
+    NoSoil,
+}
+
+pub struct SubArea {
+    pub land: LandUse,
+    pub cover: Cover,
+    pub soil: Soil,
+    pub area: Area,
+}
+
+// The first `count` places hold the sub-areas; no call reads past them.
+pub struct Site {
+    pub parts: [SubArea; 32],
+    pub count: usize,
+}
+
+pub const MOST_PARTS: usize = 32;
+
+// An area of a site, or the refusal.
+pub enum AreaAnswer {
+    Granted(Area),
+    Refused(Refusal),
+}
+
+// The site that an add hands back, with its new total area or the refusal.
+pub struct Added {
+    pub answer: AreaAnswer,
+    pub site: Site,
+}
+
+fn is_named(soil: Soil) -> bool
+    ensures { λ r. ⌜ r ≡ named soil ⌝ }
+{
+    match soil {
+        Soil::A => true,
+        Soil::B => true,
+        Soil::C => true,
+        Soil::CD => true,
+        Soil::D => true,
+        Soil::U => true,
+        Soil::NoSoil => false,
+    }
+}
+
+fn soil_suits(cover: Cover, soil: Soil) -> bool
+    ensures { λ r. ⌜ r ≡ suits cover soil ⌝ }
+{
+    match cover {
+        Cover::Imp => !is_named(soil),
+        Cover::Per => is_named(soil),
+    }
+}
+
+// The column of Tables 3-1 and 3-2 for a soil.
+pub fn load_column(soil: Soil) -> Column
+    ensures { λ r. ⌜ r ≡ loadColumn soil ⌝ }
+{
+    match soil {
+        Soil::A => Column::A,
+        Soil::B => Column::B,
+        Soil::C => Column::C,
+        Soil::CD => Column::CD,
+        Soil::D => Column::D,
+        Soil::U => Column::C,
+        Soil::NoSoil => Column::C,
+    }
+}
+
+// The column of Table 3-4 for a soil.
+pub fn runoff_column(soil: Soil) -> Column
+    ensures { λ r. ⌜ r ≡ runoffColumn soil ⌝ }
+{
+    match soil {
+        Soil::A => Column::A,
+        Soil::B => Column::B,
+        Soil::C => Column::C,
+        Soil::CD => Column::CD,
+        Soil::D => Column::D,
+        Soil::U => Column::C,
+        Soil::NoSoil => Column::C,
+    }
+}
+
+// The refusal 2 of a sub-area does not arise.
+fn part_fits(part: SubArea) -> bool
+    ensures { λ r. ⌜ r ≡ fits part ⌝ }
+{
+    let area = part.area;
+    if area.0 < 1 {
+        return false;
+    }
+    if units::MOST_AREA < area.0 {
+        return false;
+    }
+    let cover = part.cover;
+    let soil = part.soil;
+    soil_suits(cover, soil)
+}
+
+// The refusal 3 does not arise where the area is added to the total.
+fn has_room(total: u64, area: u64) -> bool
+    ensures { λ r. ⌜ r ≡ hasRoom total area ⌝ }
+{
+    if units::MOST_AREA < total {
+        return false;
+    }
+    area <= units::MOST_AREA - total
+}
+
+pub fn empty() -> Site
+    ensures { λ r. ⌜ r ≡ emptySite ⌝ }
+{
+    let blank = SubArea {
+        land: LandUse::Com,
+        cover: Cover::Imp,
+        soil: Soil::A,
+        area: Area(0),
+    };
+    Site {
+        parts: [blank; 32],
+        count: 0,
+    }
+}
+
+// The total area of a record that is judged fine.
+pub fn judge(site: Site) -> AreaAnswer
+    ensures { λ r. ⌜ r ≡ judged site ⌝ }
+{
+    let count = site.count;
+    if MOST_PARTS < count {
+        return AreaAnswer::Refused(Refusal::SiteFull);
+    }
+    let mut total: u64 = 0;
+    let mut i = 0;
+    while i < count {
+        let part = site.parts[i];
+        if !part_fits(part) {
+            return AreaAnswer::Refused(Refusal::UnfitSubArea);
+        }
+        let area = part.area;
+        if !has_room(total, area.0) {
+            return AreaAnswer::Refused(Refusal::TotalAreaPassed);
+        }
+        total += area.0;
+        i += 1;
+    }
+    AreaAnswer::Granted(Area(total))
+}
+
+// A sub-area's part in the impervious area.
+fn impervious_part(part: SubArea) -> u64
+    ensures { λ r. ⌜ r ≡ imperviousOf part ⌝ }
+{
+    let area = part.area;
+    let cover = part.cover;
+    match cover {
+        Cover::Imp => area.0,
+        Cover::Per => 0,
+    }
+}
+
+fn impervious_sum(site: Site) -> u64
+    requires { ⌜ Fine site ⌝ }
+    ensures { λ r. ⌜ r ≡ imperviousArea (partsOf site) ⌝ }
+{
+    let count = site.count;
+    let mut sum: u64 = 0;
+    let mut i = 0;
+    while i < count {
+        let part = site.parts[i];
+        sum += impervious_part(part);
+        i += 1;
+    }
+    sum
+}
+
+// The impervious area of a site.
+pub fn impervious_area(site: Site) -> AreaAnswer
+    ensures { λ r. ⌜ r ≡ impervious site ⌝ }
+{
+    let found = judge(site);
+    match found {
+        AreaAnswer::Granted(_) => AreaAnswer::Granted(Area(impervious_sum(site))),
+        AreaAnswer::Refused(why) => AreaAnswer::Refused(why),
+    }
+}
+
+// The add of whoever carries the total area of a site that is judged fine: nothing is judged anew.
+pub fn add_to(site: Site, total: Area, part: SubArea) -> Added
+    ensures { λ r. ⌜ r ≡ addedTo site (total .0) part ⌝ }
+{
+    if !part_fits(part) {
+        return Added {
+            answer: AreaAnswer::Refused(Refusal::UnfitSubArea),
+            site,
+        };
+    }
+    let count = site.count;
+    if MOST_PARTS <= count {
+        return Added {
+            answer: AreaAnswer::Refused(Refusal::SiteFull),
+            site,
+        };
+    }
+    let area = part.area;
+    if !has_room(total.0, area.0) {
+        return Added {
+            answer: AreaAnswer::Refused(Refusal::TotalAreaPassed),
+            site,
+        };
+    }
+    let mut next = site;
+    next.parts[count] = part;
+    next.count = count + 1;
+    Added {
+        answer: AreaAnswer::Granted(Area(total.0 + area.0)),
+        site: next,
+    }
+}
+
+pub fn add(site: Site, part: SubArea) -> Added
+    ensures { λ r. ⌜ r ≡ added site part ⌝ }
+{
+    let found = judge(site);
+    match found {
+        AreaAnswer::Granted(total) => add_to(site, total, part),
+        AreaAnswer::Refused(why) => Added {
+            answer: AreaAnswer::Refused(why),
+            site,
+        },
+    }
+}
