@@ -7,7 +7,10 @@ use mathlib.Core.List.{List, [], _∷_}
 use mathlib.Core.Path.{_≡_, refl, sym, _∙_, ap, subst}
 use native.Mathlib.Nat.{add-zero, zero-add, add-suc, suc-add, le-refl, le-trans, eq-or-lt-of-le, le-of-suc-le-suc, not-suc-le-zero}
 use native.Mathlib.Omega.{arith}
+use lib.Dec.{eqb}
 use lib.ListN.{length, getD}
+use lib.Seq.{ext-getD}
+use borrow.Author.Tests.{eqb-true}
 use Rattle.laws.specs.Table.{everyFrom, every, valuesFrom, tableOf}
 
 and-left : (a b : Bool) → (a && b) ≡ true → a ≡ true
@@ -58,3 +61,9 @@ length-table f n = length-values f 0 n
 -- The entry at a place is the function's value there.
 pub table-at : (f : ℕ → ℕ) (n i : ℕ) → i < n → getD (tableOf f n) i 0 ≡ f i
 table-at f n i h = values-at f 0 n i h ∙ ap f (zero-add i)
+
+-- A list of n entries, each of which one computed test finds to be the function's value at its place, is the function's table.
+pub is-table : (f : ℕ → ℕ) (n : ℕ) (xs : List ℕ) → length xs ≡ n → every (λ k x. eqb x (f k)) xs ≡ true → xs ≡ tableOf f n
+is-table f n xs e t =
+    ext-getD 0 xs (tableOf f n) (e ∙ sym (length-table f n))
+    (λ i h. eqb-true (getD xs i 0) (f i) (carry (λ k x. eqb x (f k)) xs t i h) ∙ sym (table-at f n i (omega arith)))
