@@ -1,0 +1,57 @@
+-- `text::same` meets its contract: texts of other lengths differ, and those of one length are alike up to the place that is looked at.
+-- Assumes nothing.
+use Prim.Native.Nat.{_-_}
+use borrow.Author.Needs.{needs}
+use lib.ListN.{length}
+use Rattle.text.proofs.Alike.{Alike, longer-differs, alike-none, alike-not, alike-next, alike-all}
+use Rattle.text.proofs.same.Statement.{statement}
+use Rattle.text.proofs.same.Tie as tie
+
+abbrev Inv-loop : tie.InvT-loop
+Inv-loop s t i₀ i = Alike s t i
+
+abbrev μ-loop : tie.MeasureT-loop
+μ-loop s t i₀ i = length s - i
+
+returns : tie.Need-returns Inv-loop μ-loop
+returns c = search (longer-differs, needs)
+
+loop-holds : tie.Need-loop-holds Inv-loop μ-loop
+loop-holds c = search (alike-none, needs)
+
+shared-slice-read-if2 : tie.Need-shared-slice-read-if2 Inv-loop μ-loop
+shared-slice-read-if2 c = search needs
+
+shared-slice-read-if2-2 : tie.Need-shared-slice-read-if2-2 Inv-loop μ-loop
+shared-slice-read-if2-2 c = search needs
+
+returns-2 : tie.Need-returns-2 Inv-loop μ-loop
+returns-2 c = search (alike-not, needs)
+
+add-i : tie.Need-add-i Inv-loop μ-loop
+add-i c = search needs
+
+loop-less : tie.Need-loop-less Inv-loop μ-loop
+loop-less c = search needs
+
+loop-again : tie.Need-loop-again Inv-loop μ-loop
+loop-again c = search (alike-next, needs)
+
+returns-3 : tie.Need-returns-3 Inv-loop μ-loop
+returns-3 c = search (alike-all, needs)
+
+pub same-spec : {M : Type 1} → statement M
+same-spec =
+    tie.close
+    (tie.spec
+    Inv-loop
+    μ-loop
+    returns
+    loop-holds
+    shared-slice-read-if2
+    shared-slice-read-if2-2
+    returns-2
+    add-i
+    loop-less
+    loop-again
+    returns-3)

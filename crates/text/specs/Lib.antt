@@ -1,0 +1,4 @@
+pub mod Part
+pub mod Pieces
+pub mod Words
+pub mod Numbers
