@@ -1,0 +1,123 @@
+-- The promises of specs/Promises.antt: floats in order are fractions in order, and rounding and the limit keep the order.
+-- Assumes nothing.
+use mathlib.Core.Path.{_≡_, refl, sym, ap, _∙_}
+use mathlib.Core.Logic.{_⊎_, inl, inr}
+use mathlib.Core.Bool.{Bool, true, false, cond, _&&_, _||_}
+use Prim.Native.Nat.{ℕ, _*_, _≤_, _<_, zero-le}
+use native.Mathlib.Nat.{le-trans, le-of-eq, le-of-lt, zero-mul, mul-pos, mul-mul-mul-comm, mul-le-mul-right, div-mul-le-self, div-lt-iff-lt-mul}
+use native.Mathlib.Omega.{arith}
+use lib.IntN.{ℤ}
+use lib.Dec.{T, lit<, leb, ltb, eqb, ltb→lt, eqb→eq, leb→le}
+use lib.Ieee.{Float, nan, inf, fin, up, down, le}
+use lib.Ieee.Fits.{down-pos, and-l}
+use borrow.Author.Tests.{ltb-false}
+use Rattle.refusal.specs.declared.Refusal.the-variants.{ReadingNotARate, ReadingTooFast}
+use Rattle.refusal.specs.Refusal.{granted}
+use Rattle.units.specs.Limits.{mostRate}
+use Rattle.probe.specs.declared.Reading.{Reading}
+use Rattle.probe.specs.declared.Reading.the-variants.{InchesPerHour, MillimetresPerHour}
+use Rattle.probe.specs.declared.RateAnswer.{RateAnswer}
+use Rattle.probe.specs.declared.RateAnswer.the-variants.{Granted, Refused}
+use Rattle.probe.specs.Readings.{rounded, withinMost, answerIn, rateOf, given}
+use Rattle.probe.specs.Promises.{upTo, RoundsDown, NeverFalls, StaysTooFast}
+use Rattle.probe.proofs.Rounding.{rounded-rises}
+use Rattle.probe.proofs.Parts.{granted-within}
+
+pub rounds-down : RoundsDown
+unfolding rounded
+rounds-down n d D = (div-mul-le-self n d, div-lt-iff-lt-mul D .0 (omega arith))
+
+-- ---- floats in order
+
+either : (a b : ℕ) (c : Bool) → T (ltb a b || (eqb a b && c)) → a ≤ b
+either a b c h = go (ltb a b) (ltb→lt a b) h
+  where
+    go : (t : Bool) → (T t → a < b) → T (t || (eqb a b && c)) → a ≤ b
+    go true f k = le-of-lt (f tt)
+    go false f k = le-of-eq (eqb→eq a b (and-l (eqb a b) c k))
+
+none : (m u d : ℕ) → ltb 0 m ≡ false → m * u * d ≡ 0
+none m u d e =
+    let zero-digits : m ≡ 0 = omega (arith, ltb-false 0 m e) in
+    rw zero-digits (ap (λ (n : ℕ). n * d) (zero-mul u) ∙ zero-mul d)
+
+-- of a finite float that is not below zero and another that is at least as large, the fractions are in order
+in-order : (s t : Bool) (m n : ℕ) (e d : ℤ) → (s && ltb 0 m) ≡ false → T (le (fin s m e) (fin t n d)) → m * up e * down d ≤ n * up d * down e
+unfolding le
+in-order false false m n e d p h = either (m * up e * down d) (n * up d * down e) true h
+in-order false true m n e d p h =
+    le-of-eq (eqb→eq (m * up e * down d) (n * up d * down e) (and-l (eqb (m * up e * down d) (n * up d * down e)) (eqb (m * up e * down d) 0) h))
+in-order true t m n e d p h = le-trans (le-of-eq (none m (up e) (down d) p)) zero-le
+
+-- the hundredths of a finite float, and so of floats in order
+abbrev hundredths : ℕ → ℕ → ℕ → ℤ → ℕ
+hundredths h u m e = rounded (m * up e * h) (down e * u)
+
+hundredths-rise : (h u m n : ℕ) (e d : ℤ) → 0 < u → m * up e * down d ≤ n * up d * down e → hundredths h u m e ≤ hundredths h u n d
+hundredths-rise h u m n e d U l =
+    rounded-rises (m * up e * h) (down e * u) (n * up d * h) (down d * u) (mul-pos (down-pos e) U) (mul-pos (down-pos d) U)
+    (le-trans (le-of-eq (mul-mul-mul-comm (m * up e) h (down d) u))
+    (le-trans (mul-le-mul-right (h * u) l) (le-of-eq (mul-mul-mul-comm (n * up d) (down e) h u))))
+
+-- ---- answers in order
+
+unlike : (p q : ℕ × ℕ) → p ≡ q → (p .0 ≡ q .0 → ⊥) → ⊥
+unlike p q e d = d (ap (λ (t : ℕ × ℕ). t .0) e)
+
+not-granted : (a : ℕ) → given (Refused ReadingNotARate) ≡ (granted, a) → ⊥
+not-granted a e = unlike (given (Refused ReadingNotARate)) (granted, a) e (omega arith)
+
+granted-rate : (i a : ℕ) → given (withinMost i) ≡ (granted, a) → (i ≡ a) × (i ≤ mostRate)
+unfolding withinMost
+granted-rate i a = go (leb i mostRate) (leb→le i mostRate)
+  where
+    go : (b : Bool) → (T b → i ≤ mostRate) → given (cond b (Granted (record { 0 = i })) (Refused ReadingTooFast)) ≡ (granted, a) → (i ≡ a) × (i ≤ mostRate)
+    go true l e = (ap (λ (p : ℕ × ℕ). p .1) e, l tt)
+    go false l e = absurd (unlike (given (Refused ReadingTooFast)) (granted, a) e (omega arith))
+
+-- an answer that is refused 11, or is granted with a rate of at most b
+record Lower (b : ℕ) (answer : RateAnswer) : Type 0 where
+  rate : ℕ
+  low : rate ≤ b
+  is : given answer ≡ (granted, rate)
+
+abbrev NoMore : ℕ → RateAnswer → Type 0
+NoMore b answer = (answer ≡ Refused ReadingNotARate) ⊎ Lower b answer
+
+by-tests : (p q : Bool) (i j b : ℕ) → (p ≡ false → i ≤ j) → given (cond q (Refused ReadingNotARate) (withinMost j)) ≡ (granted, b)
+    → NoMore b (cond p (Refused ReadingNotARate) (withinMost i))
+by-tests true q i j b l e = inl refl
+by-tests false true i j b l e = absurd (not-granted b e)
+by-tests false false i j b l e =
+    let y = granted-rate j b e in
+    let order : i ≤ j = l refl in
+    inr (record { rate = i; low = omega arith; is = sym (ap given (granted-within i (le-trans order (y .1)))) })
+
+-- what is no larger than a granted reading is below zero, or is granted with no larger a rate
+no-more : (h u : ℕ) (x y : Float) (b : ℕ) → 0 < u → T (le x y) → given (answerIn h u y) ≡ (granted, b) → NoMore b (answerIn h u x)
+unfolding le answerIn
+no-more h u x nan b U l e = absurd (not-granted b e)
+no-more h u x (inf t) b U l e = absurd (not-granted b e)
+no-more h u nan (fin t n d) b U l e = inl refl
+no-more h u (inf s) (fin t n d) b U l e = inl refl
+no-more h u (fin s m k) (fin t n d) b U l e =
+    by-tests (s && ltb 0 m) (t && ltb 0 n) (hundredths h u m k) (hundredths h u n d) b
+    (λ p. hundredths-rise h u m n k d U (in-order s t m n k d p l)) e
+
+same-unit : (r t : Reading) (b : ℕ) → T (upTo r t) → given (rateOf t) ≡ (granted, b) → NoMore b (rateOf r)
+same-unit (InchesPerHour x) (InchesPerHour y) b l e = no-more 100 1 x y b (lit< tt) l e
+same-unit (InchesPerHour x) (MillimetresPerHour y) b l e = absurd l
+same-unit (MillimetresPerHour x) (InchesPerHour y) b l e = absurd l
+same-unit (MillimetresPerHour x) (MillimetresPerHour y) b l e = no-more 1_000 254 x y b (lit< tt) l e
+
+pub never-falls : NeverFalls
+never-falls r t a b l e f = elim (same-unit r t b l f) [
+  | inl n ↦ absurd (not-granted a (sym (ap given n) ∙ e))
+  | inr w ↦ le-trans (le-of-eq (ap (λ (p : ℕ × ℕ). p .1) (sym e ∙ w .is))) (w .low)
+]
+
+pub stays-too-fast : StaysTooFast
+stays-too-fast r t b l e f = elim (same-unit r t b l f) [
+  | inl n ↦ unlike (given (Refused ReadingNotARate)) (given (Refused ReadingTooFast)) (sym (ap given n) ∙ e) (omega arith)
+  | inr w ↦ unlike (given (Refused ReadingTooFast)) (granted, w .rate) (sym e ∙ w .is) (omega arith)
+]
