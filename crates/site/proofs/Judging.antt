@@ -1,9 +1,10 @@
 -- Laws of the judging of a record, sub-area by sub-area.
 -- Assumes nothing.
 use Prim.Native.Nat.{ℕ, _+_, _≤_, _<_}
-use mathlib.Core.Bool.{Bool, true, false, not}
+use mathlib.Core.Bool.{Bool, true, false, not, and-eq-true-iff}
 use mathlib.Core.Path.{_≡_, refl, sym, _∙_, ap}
 use mathlib.Core.List.{List, [], _∷_}
+use native.Mathlib.Nat.{add-assoc, add-zero, zero-add}
 use native.Mathlib.Omega.{arith}
 use lib.Dec.{leb}
 use lib.ListN.{drop, getD}
@@ -20,6 +21,7 @@ use Rattle.site.specs.declared.AreaAnswer.{AreaAnswer}
 use Rattle.site.specs.declared.AreaAnswer.the-variants.{Granted, Refused}
 use Rattle.site.specs.Parts.{partsOf, areaOf, blank, mostParts, totalArea}
 use Rattle.site.specs.Judging.{fits, hasRoom, judgedFrom, judged, afterJudging, Fine}
+use Rattle.site.specs.Promises.{allFit}
 use Rattle.site.proofs.Parts.{Whole, part-at, none-left}
 
 -- The sub-areas before place i passed and have the total area; what is left decides.
@@ -72,7 +74,8 @@ pub ends : (s : Site) (i total : ℕ) → Running s i total → s .count ≤ i �
 unfolding judgedFrom
 ends s i total r h = rw (none-left s i (r .whole) h) at (r .rest)
 
-never-granted : {why : Refusal} {a : Area} → Refused why ≡ Granted a → ⊥
+-- No refusal is a grant.
+pub never-granted : {why : Refusal} {a : Area} → Refused why ≡ Granted a → ⊥
 never-granted e = let z : _≡_ {A = ℕ} 0 1 = cc in omega arith
 
 -- Where the total area is granted, each test passed.
@@ -82,18 +85,18 @@ passed true true x a e = (refl, (refl, e))
 passed true false x a e = absurd (never-granted e)
 passed false d x a e = absurd (never-granted e)
 
--- What is granted from a running total on is this total with the sub-areas' area, and at most the largest.
+-- What is granted from a running total on: each sub-area fits, and the total with their area is what is granted, at most the largest.
 from-total : (total : ℕ) (ps : List SubArea) (a : Area) → total ≤ mostArea → judgedFrom total ps ≡ Granted a
-    → (total + totalArea ps ≡ a .0) × (a .0 ≤ mostArea)
-unfolding judgedFrom sumOf
+    → (allFit ps ≡ true) × (total + totalArea ps ≡ a .0) × (a .0 ≤ mostArea)
+unfolding judgedFrom sumOf allFit
 from-total total [] a h e =
     let z : total ≡ a .0 = ap (afterJudging (λ why. 0) (λ n. n)) e in
-    (omega arith, omega arith)
+    (refl, omega arith, omega arith)
 from-total total (p ∷ ps) a h e =
     let t = passed (fits p) (hasRoom total (areaOf p)) (judgedFrom (total + areaOf p) ps) a e in
     let l = leb-true (total + areaOf p) mostArea (t .1 .0) in
     let n = from-total (total + areaOf p) ps a l (t .1 .1) in
-    (omega arith, n .1)
+    (simp (t .0) (n .0), omega arith, n .2)
 
 granted-count : (s : Site) (a : Area) (b : Bool) → leb (s .count) mostParts ≡ b
     → inTurn Refused (judgedFrom 0 (partsOf s)) ((b, SiteFull) ∷ []) ≡ Granted a
@@ -101,21 +104,41 @@ granted-count : (s : Site) (a : Area) (b : Bool) → leb (s .count) mostParts �
 granted-count s a true f e = (leb-true (s .count) mostParts f, e)
 granted-count s a false f e = absurd (never-granted e)
 
--- What is granted is the total area of the sub-areas.
-pub judged-total : (s : Site) (a : Area) → judged s ≡ Granted a → totalArea (partsOf s) ≡ a .0
+-- What a record that is judged fine has.
+pub judged-has : (s : Site) (a : Area) → judged s ≡ Granted a
+    → (s .count ≤ mostParts) × (allFit (partsOf s) ≡ true) × (totalArea (partsOf s) ≡ a .0) × (a .0 ≤ mostArea)
 unfolding judged
-judged-total s a e =
+judged-has s a e =
     let g = granted-count s a (leb (s .count) mostParts) refl e in
     let t = from-total 0 (partsOf s) a (omega arith) (g .1) in
-    omega arith
+    (g .0, t .0, omega arith, t .2)
+
+-- What is granted is the total area of the sub-areas.
+pub judged-total : (s : Site) (a : Area) → judged s ≡ Granted a → totalArea (partsOf s) ≡ a .0
+judged-total s a e = judged-has s a e .2
 
 -- A record that is judged fine has at most 32 sub-areas and at most the largest area.
 pub judged-fine : (s : Site) (a : Area) → judged s ≡ Granted a → Fine s
-unfolding judged
 judged-fine s a e =
-    let g = granted-count s a (leb (s .count) mostParts) refl e in
-    let t = from-total 0 (partsOf s) a (omega arith) (g .1) in
-    record { count = g .0; total = omega arith }
+    let h = judged-has s a e in
+    record { count = h .0; total = omega arith }
+
+-- Sub-areas that fit are granted from a running total on, where the total stays at most the largest.
+from-fits : (total : ℕ) (ps : List SubArea) → allFit ps ≡ true → total + totalArea ps ≤ mostArea
+    → judgedFrom total ps ≡ Granted (record { 0 = total + totalArea ps })
+unfolding judgedFrom sumOf allFit
+from-fits total [] f h = simp add-zero
+from-fits total (p ∷ ps) f h =
+    let b = and-eq-true-iff (fits p) (allFit ps) .0 f in
+    let room = le-leb (total + areaOf p) mostArea (omega arith) in
+    simp (b .0, room, ← add-assoc) (from-fits (total + areaOf p) ps (b .1) (omega arith))
+
+-- A record that has what is asked is judged fine.
+pub has-judged : (s : Site) (a : Area) → s .count ≤ mostParts → allFit (partsOf s) ≡ true → totalArea (partsOf s) ≡ a .0 → a .0 ≤ mostArea
+    → judged s ≡ Granted a
+unfolding judged
+has-judged s a h f t l =
+    simp (le-leb _ _ h) (from-fits 0 (partsOf s) f (omega arith) ∙ ap (λ (n : ℕ). Granted (record { 0 = n })) (zero-add _ ∙ t))
 
 -- A call whose record is judged: a fine record goes on with its total area, and a refused one stops the call.
 module _ {A : Type 0} (refused : Refusal → A) (onward : ℕ → A) (s : Site) {found : AreaAnswer} (e : found ≡ judged s) where

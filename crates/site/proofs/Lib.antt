@@ -3,3 +3,4 @@ pub mod Tests
 pub mod Judging
 pub mod Adding
 pub mod Sums
+pub mod Promises

@@ -2,3 +2,4 @@ pub mod Soils
 pub mod Parts
 pub mod Judging
 pub mod Adding
+pub mod Promises
