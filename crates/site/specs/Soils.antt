@@ -23,23 +23,21 @@ abbrev pub suits : Cover → Soil → Bool
 suits Imp soil = not (named soil)
 suits Per soil = named soil
 
--- The column of Tables 3-1 and 3-2 for a soil: U is read as C (note to Table 3-2). A pervious sub-area always names its soil;
--- `-` names none and is read as U is.
-abbrev pub loadColumn : Soil → Column
-loadColumn A = column.A
-loadColumn B = column.B
-loadColumn C = column.C
-loadColumn CD = column.CD
-loadColumn D = column.D
-loadColumn U = column.C
-loadColumn NoSoil = column.C
+-- The column of a soil in a table that reads a soil that is not known in the column that is given. A pervious sub-area always
+-- names its soil; `-` names none and is read as U is.
+abbrev pub columnOf : Column → Soil → Column
+columnOf unknown A = column.A
+columnOf unknown B = column.B
+columnOf unknown C = column.C
+columnOf unknown CD = column.CD
+columnOf unknown D = column.D
+columnOf unknown U = unknown
+columnOf unknown NoSoil = unknown
 
--- The column of Table 3-4 for a soil: U is read as C (text on Table 3-4), and `-` as U is.
+-- In Tables 3-1 and 3-2 U is read as C (note to Table 3-2).
+abbrev pub loadColumn : Soil → Column
+loadColumn soil = columnOf column.C soil
+
+-- In Table 3-4 U is read as C (text on Table 3-4).
 abbrev pub runoffColumn : Soil → Column
-runoffColumn A = column.A
-runoffColumn B = column.B
-runoffColumn C = column.C
-runoffColumn CD = column.CD
-runoffColumn D = column.D
-runoffColumn U = column.C
-runoffColumn NoSoil = column.C
+runoffColumn soil = columnOf column.C soil

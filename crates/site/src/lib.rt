@@ -1,6 +1,6 @@
 // 01, "Site and load": sub-areas, the site record that holds them, the judging of a record, and adding to it.
 ghost use mathlib.Core.Path.{_≡_};
-ghost use Rattle.site.specs.Soils.{named, suits, loadColumn, runoffColumn};
+ghost use Rattle.site.specs.Soils.{named, suits, columnOf, loadColumn, runoffColumn};
 ghost use Rattle.site.specs.Parts.{partsOf, imperviousOf, imperviousArea, emptySite};
 ghost use Rattle.site.specs.Judging.{fits, hasRoom, judged, Fine, impervious};
 ghost use Rattle.site.specs.Adding.{addedTo, added};
@@ -88,9 +88,9 @@ fn soil_suits(cover: Cover, soil: Soil) -> bool
     }
 }
 
-// The column of Tables 3-1 and 3-2 for a soil.
-pub fn load_column(soil: Soil) -> Column
-    ensures { λ r. ⌜ r ≡ loadColumn soil ⌝ }
+// The column of a soil in a table that reads an unknown soil in the column that is given.
+fn column(soil: Soil, unknown: Column) -> Column
+    ensures { λ r. ⌜ r ≡ columnOf unknown soil ⌝ }
 {
     match soil {
         Soil::A => Column::A,
@@ -98,24 +98,23 @@ pub fn load_column(soil: Soil) -> Column
         Soil::C => Column::C,
         Soil::CD => Column::CD,
         Soil::D => Column::D,
-        Soil::U => Column::C,
-        Soil::NoSoil => Column::C,
+        Soil::U => unknown,
+        Soil::NoSoil => unknown,
     }
 }
 
-// The column of Table 3-4 for a soil.
+// The column of a soil in Tables 3-1 and 3-2.
+pub fn load_column(soil: Soil) -> Column
+    ensures { λ r. ⌜ r ≡ loadColumn soil ⌝ }
+{
+    column(soil, Column::C)
+}
+
+// The column of a soil in Table 3-4.
 pub fn runoff_column(soil: Soil) -> Column
     ensures { λ r. ⌜ r ≡ runoffColumn soil ⌝ }
 {
-    match soil {
-        Soil::A => Column::A,
-        Soil::B => Column::B,
-        Soil::C => Column::C,
-        Soil::CD => Column::CD,
-        Soil::D => Column::D,
-        Soil::U => Column::C,
-        Soil::NoSoil => Column::C,
-    }
+    column(soil, Column::C)
 }
 
 // The refusal 2 of a sub-area does not arise.
@@ -202,11 +201,11 @@ fn impervious_sum(site: Site) -> u64
 {
     let count = site.count;
     let mut sum: u64 = 0;
-    let mut i = 0;
-    while i < count {
-        let part = site.parts[i];
+    let mut place = 0;
+    while place < count {
+        let part = site.parts[place];
         sum += impervious_part(part);
-        i += 1;
+        place += 1;
     }
     sum
 }

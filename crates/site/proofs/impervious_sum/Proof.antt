@@ -12,10 +12,10 @@ use Rattle.site.proofs.impervious_sum.Statement.{statement}
 use Rattle.site.proofs.impervious_sum.Tie as tie
 
 abbrev Inv-loop : tie.InvT-loop
-Inv-loop site count sum₀ i₀ sum i = Summed imperviousOf site i sum
+Inv-loop site count sum₀ place₀ sum place = Summed imperviousOf site place sum
 
 abbrev μ-loop : tie.MeasureT-loop
-μ-loop site count sum₀ i₀ sum i = count - i
+μ-loop site count sum₀ place₀ sum place = count - place
 
 loop-holds : tie.Need-loop-holds Inv-loop μ-loop
 loop-holds c = let len : length (c .args .t1 .parts) ≡ mostParts = sym (length-map (c .args .t1 .parts) _) ∙ c .good .0 .1 .1 .0 .1 .0 .1 in
@@ -36,8 +36,8 @@ add-sum c = let h = sum-within _ _ _ _ _ (c .before .before .before .loop .inv) 
     let t = c .before .before .before .before .pre .total in
     record { fits = lt-of-le-of-lt h (lt-of-le-of-lt (le-trans l t) (lit< tt)) }
 
-add-i : tie.Need-add-i Inv-loop μ-loop
-add-i c = search needs
+add-place : tie.Need-add-place Inv-loop μ-loop
+add-place c = search needs
 
 loop-less : tie.Need-loop-less Inv-loop μ-loop
 loop-less c = search needs
@@ -59,7 +59,7 @@ impervious-sum-spec =
     element-copy-out-part
     impervious-part-requires
     add-sum
-    add-i
+    add-place
     loop-less
     loop-again
     returns)
