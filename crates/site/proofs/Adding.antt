@@ -2,14 +2,13 @@
 -- Assumes nothing.
 use Prim.Native.Nat.{ℕ, _+_, _≤_, _<_}
 use mathlib.Core.Bool.{Bool, true, false, not}
-use mathlib.Core.Path.{_≡_, refl, sym, _∙_, ap}
-use lib.ListN.{set}
+use mathlib.Core.Path.{_≡_, sym, _∙_}
 use borrow.Author.Tests.{le-ltb, lt-ltb, not-true, not-false}
 use Rattle.refusal.specs.declared.Refusal.the-variants.{UnfitSubArea, TotalAreaPassed, SiteFull}
 use Rattle.units.specs.declared.Area.{Area}
 use Rattle.site.specs.declared.SubArea.{SubArea}
 use Rattle.site.specs.declared.Site.{Site}
-use Rattle.site.specs.declared.AreaAnswer.the-variants.{Granted, Refused}
+use Rattle.site.specs.declared.AreaAnswer.the-variants.{Granted}
 use Rattle.site.specs.Parts.{areaOf, mostParts}
 use Rattle.site.specs.Judging.{fits, hasRoom, judged}
 use Rattle.site.specs.Adding.{kept, enlarged, addedTo, added}

@@ -134,8 +134,8 @@ from-fits total (p ∷ ps) f h =
     simp (b .0, room, ← add-assoc) (from-fits (total + areaOf p) ps (b .1) (omega arith))
 
 -- A record that has what is asked is judged fine.
-pub has-judged : (s : Site) (a : Area) → s .count ≤ mostParts → allFit (partsOf s) ≡ true → totalArea (partsOf s) ≡ a .0 → a .0 ≤ mostArea
-    → judged s ≡ Granted a
+pub has-judged : (s : Site) (a : Area) → s .count ≤ mostParts → allFit (partsOf s) ≡ true
+    → totalArea (partsOf s) ≡ a .0 → a .0 ≤ mostArea → judged s ≡ Granted a
 unfolding judged
 has-judged s a h f t l =
     simp (le-leb _ _ h) (from-fits 0 (partsOf s) f (omega arith) ∙ ap (λ (n : ℕ). Granted (record { 0 = n })) (zero-add _ ∙ t))

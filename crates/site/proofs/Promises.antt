@@ -7,11 +7,9 @@ use mathlib.Core.List.{List, [], _∷_, _++_}
 use native.Mathlib.Numerals.{add-one}
 use native.Mathlib.Omega.{arith}
 use lib.Dec.{leb, ltb}
-use lib.ListN.{length}
 use lib.Seq.{take-suc-set}
 use borrow.Author.Tests.{ltb-true, leb-true}
 use Rattle.laws.specs.Turn.{inTurn}
-use Rattle.laws.specs.Sum.{sumOf}
 use Rattle.laws.proofs.Sum.{sum-more}
 use Rattle.refusal.specs.declared.Refusal.{Refusal}
 use Rattle.refusal.specs.declared.Refusal.the-variants.{UnfitSubArea, TotalAreaPassed, SiteFull}
@@ -22,7 +20,7 @@ use Rattle.site.specs.declared.Site.{Site}
 use Rattle.site.specs.declared.Added.{Added}
 use Rattle.site.specs.declared.AreaAnswer.{AreaAnswer}
 use Rattle.site.specs.declared.AreaAnswer.the-variants.{Granted, Refused}
-use Rattle.site.specs.Parts.{mostParts, partsOf, areaOf, totalArea, imperviousArea}
+use Rattle.site.specs.Parts.{mostParts, partsOf, areaOf}
 use Rattle.site.specs.Judging.{fits, hasRoom, judgedFrom, judged, impervious, afterJudging}
 use Rattle.site.specs.Adding.{kept, enlarged, addedTo, added}
 use Rattle.site.specs.Promises.{allFit, FineExactly, Sized, Alike, PastCountUnread, RefusedKeeps, GrantedHolds, AddsAgree, EmptyFine}
@@ -52,7 +50,8 @@ module _ (s : Site) (granted : Added) where
   all-pass false d e h = absurd (never-granted h)
 
   -- a refused answer comes with the site as it was, where the granted answer is none
-  site-kept : {a : Area} → granted .answer ≡ Granted a → (b d e : Bool) {why : Refusal} → tried b d e .answer ≡ Refused why → tried b d e .site ≡ s
+  site-kept : {a : Area} → granted .answer ≡ Granted a → (b d e : Bool) {why : Refusal} → tried b d e .answer ≡ Refused why
+      → tried b d e .site ≡ s
   site-kept g true true true h = absurd (never-granted (sym h ∙ g))
   site-kept g true true false h = refl
   site-kept g true false e h = refl
@@ -120,7 +119,8 @@ module _ (s t : Site) (r : Alike s t) where
   judged-alike = ap-two (r .count) (r .parts)
     where
       ap-two : {n m : ℕ} {ps qs : List SubArea} → n ≡ m → ps ≡ qs
-          → inTurn Refused (judgedFrom 0 ps) ((leb n mostParts, SiteFull) ∷ []) ≡ inTurn Refused (judgedFrom 0 qs) ((leb m mostParts, SiteFull) ∷ [])
+          → inTurn Refused (judgedFrom 0 ps) ((leb n mostParts, SiteFull) ∷ [])
+          ≡ inTurn Refused (judgedFrom 0 qs) ((leb m mostParts, SiteFull) ∷ [])
       ap-two e f = simp (e, f)
 
   impervious-alike : impervious s ≡ impervious t
@@ -140,7 +140,8 @@ module _ (s t : Site) (r : Alike s t) where
     answer-alike false d e = refl
 
     -- and the sites agree again, where there is a place left to write
-    site-alike : (b d e : Bool) → (d ≡ true → Alike (enlarged s p) (enlarged t p)) → Alike (tried s (grown s) b d e .site) (tried t (grown t) b d e .site)
+    site-alike : (b d e : Bool) → (d ≡ true → Alike (enlarged s p) (enlarged t p))
+        → Alike (tried s (grown s) b d e .site) (tried t (grown t) b d e .site)
     site-alike true true true g = g refl
     site-alike true true false g = r
     site-alike true false e g = r
@@ -160,9 +161,10 @@ module _ (s t : Site) (r : Alike s t) where
         let h = ltb-true (s .count) mostParts d in
         let c = r .count in
         let g : t .count < mostParts = omega arith in
-        record
-        { count = ap (λ (n : ℕ). n + 1) (r .count)
-        ; parts = parts-enlarged s p y h ∙ ap (λ (ps : List SubArea). ps ++ (p ∷ [])) (r .parts) ∙ sym (parts-enlarged t p z g) }
+        record {
+          count = ap (λ (n : ℕ). n + 1) (r .count);
+          parts = parts-enlarged s p y h ∙ ap (λ (ps : List SubArea). ps ++ (p ∷ [])) (r .parts) ∙ sym (parts-enlarged t p z g);
+        }
 
     added-to-site : Sized s → Sized t → Alike (addedTo s total p .site) (addedTo t total p .site)
     unfolding addedTo

@@ -1,8 +1,8 @@
 -- Laws of a sum over sub-areas, and of the loop that makes it.
 -- Assumes nothing.
 use Prim.Native.Nat.{ℕ, _+_, _≤_, _<_}
-use mathlib.Core.Path.{_≡_, refl, sym, _∙_, ap}
-use mathlib.Core.List.{List, [], _∷_}
+use mathlib.Core.Path.{_≡_}
+use mathlib.Core.List.{List}
 use native.Mathlib.Omega.{arith}
 use lib.ListN.{drop, getD}
 use Rattle.laws.specs.Sum.{sumOf}
@@ -38,11 +38,13 @@ module _ (amount : SubArea → ℕ) (s : Site) where
   left i sum r h = rw (part-at s i (r .whole) h) at (r .rest)
 
   -- v is what the sub-area at place i adds
-  pub sum-next : (i sum v : ℕ) → Summed amount s i sum → i < s .count → v ≡ amount (getD (s .parts) i blank) → Summed amount s (i + 1) (sum + v)
+  pub sum-next : (i sum v : ℕ) → Summed amount s i sum → i < s .count → v ≡ amount (getD (s .parts) i blank)
+      → Summed amount s (i + 1) (sum + v)
   sum-next i sum v r h a = record { whole = r .whole; rest = let e = left i sum r h in omega arith }
 
   -- What is gathered next is at most the whole sum.
-  pub sum-within : (i sum v : ℕ) → Summed amount s i sum → i < s .count → v ≡ amount (getD (s .parts) i blank) → sum + v ≤ sumOf amount (partsOf s)
+  pub sum-within : (i sum v : ℕ) → Summed amount s i sum → i < s .count → v ≡ amount (getD (s .parts) i blank)
+      → sum + v ≤ sumOf amount (partsOf s)
   sum-within i sum v r h a = let e = left i sum r h in omega arith
 
   pub sum-ends : (i sum : ℕ) → Summed amount s i sum → s .count ≤ i → sum ≡ sumOf amount (partsOf s)

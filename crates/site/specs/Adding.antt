@@ -1,7 +1,7 @@
 -- 01, "Site and load" and "The numbers given back": adding a sub-area tries 2, 14, 3 and hands the site back.
 -- Assumes nothing.
 use Prim.Native.Nat.{ℕ, _+_}
-use mathlib.Core.List.{List, [], _∷_}
+use mathlib.Core.List.{[], _∷_}
 use lib.Dec.{ltb}
 use lib.ListN.{set}
 use Rattle.laws.specs.Turn.{inTurn}

@@ -21,7 +21,9 @@ enum-known-found-2 : tie.Need-enum-known-found-2
 enum-known-found-2 c = search needs
 
 returns : tie.Need-returns
-returns c = c .add-to .ensures ∙ add-agrees _ _ _ (sym (c .before .before .before .before .judge .ensures) ∙ c .before .before .found .given .1)
+returns c =
+    c .add-to .ensures
+    ∙ add-agrees _ _ _ (sym (c .before .before .before .before .judge .ensures) ∙ c .before .before .found .given .1)
 
 returns-2 : tie.Need-returns-2
 unfolding added

@@ -23,8 +23,11 @@ enum-known-found c = search needs
 
 returns : tie.Need-returns
 unfolding impervious
-returns c = simp (c .impervious-sum .ensures)
-    (goes-on Refused (λ total. Granted (record { 0 = imperviousArea (partsOf (c .before .before .before .before .args .site)) })) _ (c .before .before .before .judge .ensures) (c .before .enum-told .given .1))
+returns c =
+    let found = c .before .before .before in
+    let sum = imperviousArea (partsOf (found .before .args .site)) in
+    simp (c .impervious-sum .ensures)
+    (goes-on Refused (λ total. Granted (record { 0 = sum })) _ (found .judge .ensures) (c .before .enum-told .given .1))
 
 returns-2 : tie.Need-returns-2
 unfolding impervious

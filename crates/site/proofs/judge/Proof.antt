@@ -20,8 +20,10 @@ returns : tie.Need-returns Inv-loop μ-loop
 returns c = search (overfull, needs)
 
 loop-holds : tie.Need-loop-holds Inv-loop μ-loop
-loop-holds c = let len : length (c .before .args .t1 .parts) ≡ mostParts = sym (length-map (c .before .args .t1 .parts) _) ∙ c .before .good .0 .1 .1 .0 .1 .0 .1 in
-    starts (c .before .args .t1) (record { places = len; count = c .if1 .left })
+loop-holds c =
+    let site = c .before .args .t1 in
+    let len : length (site .parts) ≡ mostParts = sym (length-map (site .parts) _) ∙ c .before .good .0 .1 .1 .0 .1 .0 .1 in
+    starts site (record { places = len; count = c .if1 .left })
 
 mul-part : tie.Need-mul-part Inv-loop μ-loop
 mul-part c = search needs
@@ -51,7 +53,16 @@ loop-less : tie.Need-loop-less Inv-loop μ-loop
 loop-less c = search needs
 
 loop-again : tie.Need-loop-again Inv-loop μ-loop
-loop-again c = passes _ _ _ (c .before .before .before .before .before .before .before .before .loop .inv) (c .before .before .before .before .before .before .before .loop-test .taken) (c .before .before .before .before .before .part-fits .ensures) (c .before .before .before .before .if2 .left) (c .before .before .has-room .ensures) (c .before .if3 .left)
+loop-again c =
+    let tried = c .before .before .before .before in
+    let turn = tried .before .before .before in
+    passes _ _ _
+    (turn .before .loop .inv)
+    (turn .loop-test .taken)
+    (tried .before .part-fits .ensures)
+    (tried .if2 .left)
+    (c .before .before .has-room .ensures)
+    (c .before .if3 .left)
 
 returns-4 : tie.Need-returns-4 Inv-loop μ-loop
 returns-4 c = search (ends, needs)
