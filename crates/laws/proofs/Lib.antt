@@ -1,5 +1,6 @@
 pub mod Order
 pub mod First
+pub mod Walk
 pub mod Bisection
 pub mod Quotient
 pub mod Line

@@ -1,0 +1,25 @@
+-- 01, "Curve sheets": what a sheet must keep, said of every depth, rate and percent. A sheet is judged fine exactly when it keeps all of it.
+-- Assumes nothing.
+use Prim.Native.Nat.{ℕ, _+_, _*_, _≤_, _<_}
+use mathlib.Core.Bool.{true}
+use mathlib.Core.List.{List}
+use mathlib.Core.Logic.{_⊎_}
+use mathlib.Core.Path.{_≡_}
+use lib.ListN.{length, getD}
+use Rattle.units.specs.Limits.{mostRate, mostPercent, highestDepth}
+use Rattle.sheet.specs.Sheet.{mostDepths, mostRates, previous, withoutRates}
+
+-- every number, in rows of n, is at least `gap` above the one before it, 0 at the start of a row, and at most `most`
+pub record InStep (xs : List ℕ) (n gap most : ℕ) : Type 0 where
+  pub rises : (k : ℕ) → k < length xs → previous xs n k + gap ≤ getD xs k 0
+  pub small : (k : ℕ) → k < length xs → getD xs k 0 ≤ most
+
+pub record Rules (ds rs ps : List ℕ) : Type 0 where
+  pub some-depths : 1 ≤ length ds
+  pub few-depths : length ds ≤ mostDepths
+  pub some-rates : 1 ≤ length rs
+  pub few-rates : length rs ≤ mostRates
+  pub one-each : length ps ≡ length rs * length ds
+  pub depths : InStep ds (length ds) 1 highestDepth
+  pub rates : (withoutRates rs ≡ true) ⊎ InStep rs (length rs) 1 mostRate
+  pub percents : InStep ps (length ds) 0 mostPercent
