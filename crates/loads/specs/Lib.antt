@@ -1,0 +1,4 @@
+pub mod Rates
+pub mod Loads
+pub mod Sample
+pub mod Promises
