@@ -1,29 +1,31 @@
 -- Laws of the place of a sub-area in a table of rates.
 -- Assumes nothing.
-use Prim.Native.Nat.{ℕ, _+_, _≤_, _<_}
+use Prim.Native.Nat.{ℕ, _+_, _<_}
 use mathlib.Core.Path.{_≡_}
-use lib.Dec.{lit<, lit≤}
+use lib.Dec.{lit<}
 use native.Mathlib.Omega.{arith}
 use mir.Syntax.{w64}
 use mir.Val.{Fits}
 use Rattle.units.specs.declared.Column.{Column}
-use Rattle.units.specs.declared.Column.the-variants as column
 use Rattle.units.specs.Columns.{columnPlace}
 use Rattle.site.specs.declared.LandUse.{LandUse}
 use Rattle.site.specs.declared.LandUse.the-variants.{Com, Ind, Hdr, Mdr, Ldr, Hwy, For, Open, Ag}
 use Rattle.site.specs.declared.Cover.{Cover}
 use Rattle.site.specs.declared.Cover.the-variants.{Imp, Per}
 use Rattle.site.specs.declared.Soil.{Soil}
+use Rattle.site.specs.declared.Soil.the-variants.{A, B, C, CD, D, U, NoSoil}
 use Rattle.site.specs.declared.SubArea.{SubArea}
 use Rattle.site.specs.Soils.{loadColumn}
 use Rattle.loads.specs.Rates.{imperviousPlace, soilPlace, perviousPlace, placeUnder, ratePlace}
 
-column-below : (c : Column) → columnPlace c ≤ 4
-column-below column.A = lit≤ tt
-column-below column.B = lit≤ tt
-column-below column.C = lit≤ tt
-column-below column.CD = lit≤ tt
-column-below column.D = lit≤ tt
+soil-below : (soil : Soil) → soilPlace soil < 16
+soil-below A = lit< tt
+soil-below B = lit< tt
+soil-below C = lit< tt
+soil-below CD = lit< tt
+soil-below D = lit< tt
+soil-below U = lit< tt
+soil-below NoSoil = lit< tt
 
 impervious-below : (land : LandUse) → imperviousPlace land < 16
 impervious-below Com = lit< tt
@@ -49,8 +51,7 @@ pervious-below Ag n h = lit< tt
 
 under-below : (cover : Cover) (land : LandUse) (soil : Soil) → placeUnder cover land soil < 16
 under-below Imp land soil = impervious-below land
-under-below Per land soil =
-    pervious-below land (soilPlace soil) (let h = column-below (loadColumn soil) in omega arith)
+under-below Per land soil = pervious-below land (soilPlace soil) (soil-below soil)
 
 -- Each sub-area has its place among the sixteen.
 pub place-below : (p : SubArea) {n : ℕ} → n ≡ ratePlace p → n < 16
@@ -62,8 +63,8 @@ pervious-is p e f = rw (e, f)
 
 -- the place of a soil's column, eleven further on
 module _ (soil : Soil) {n : ℕ} {c : Column} (e : n ≡ columnPlace c) (f : c ≡ loadColumn soil) where
-  pub soil-fits : Fits w64 (11 + n)
-  soil-fits = let h = column-below c in record { fits = omega arith }
-
   pub soil-is : 11 + n ≡ soilPlace soil
   soil-is = rw (e, f)
+
+  pub soil-fits : Fits w64 (11 + n)
+  soil-fits = let g = soil-is in let h = soil-below soil in record { fits = omega arith }

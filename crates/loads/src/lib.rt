@@ -141,6 +141,7 @@ fn rate_of(part: SubArea, rates: &[u16; 16]) -> u64
     wide(rates[place])
 }
 
+// The sum over the sub-areas of a record that is judged fine. With rates of 16 bits it is below 2^36.
 fn load_sum(site: Site, rates: &[u16; 16]) -> u64
     requires { ⌜ Fine site ⌝ }
     ensures { λ r. ⌜ r ≡ loadOf (now (rates .entry)) (partsOf site) ⌝ }
@@ -157,7 +158,7 @@ fn load_sum(site: Site, rates: &[u16; 16]) -> u64
     sum
 }
 
-// The refusal 15 of a load.
+// A load past 10^13 is refused 15.
 fn within_largest(load: u64) -> LoadAnswer
     ensures { λ r. ⌜ r ≡ withinLargest load ⌝ }
 {
@@ -167,7 +168,7 @@ fn within_largest(load: u64) -> LoadAnswer
     LoadAnswer::Refused(Refusal::PastLargest)
 }
 
-// The load of a site under a table of rates that is lent.
+// The load of a site under a table of rates that is lent: the record is judged, then 15 is tried.
 pub fn load_under(site: Site, rates: &[u16; 16]) -> LoadAnswer
     ensures { λ r. ⌜ r ≡ loadUnder (now (rates .entry)) site ⌝ }
 {
@@ -186,7 +187,7 @@ pub fn load(site: Site, nutrient: Nutrient) -> LoadAnswer
     load_under(site, &table)
 }
 
-// The part of a load that a percent removes.
+// The part of a load that a percent removes, rounded down. A percent above 100,000 is refused 9, a load past 10^13 15.
 pub fn removed(load: Load, percent: Percent) -> LoadAnswer
     ensures { λ r. ⌜ r ≡ removedAnswer (load .0) (percent .0) ⌝ }
 {

@@ -45,13 +45,14 @@ pub struct SubArea {
     pub area: Area,
 }
 
+// How many sub-areas a site holds at most.
+pub const MOST_PARTS: usize = 32;
+
 // The first `count` places hold the sub-areas; no call reads past them.
 pub struct Site {
-    pub parts: [SubArea; 32],
+    pub parts: [SubArea; MOST_PARTS],
     pub count: usize,
 }
-
-pub const MOST_PARTS: usize = 32;
 
 // An area of a site, or the refusal.
 pub enum AreaAnswer {
@@ -65,6 +66,7 @@ pub struct Added {
     pub site: Site,
 }
 
+// A soil other than `-`.
 fn is_named(soil: Soil) -> bool
     ensures { λ r. ⌜ r ≡ named soil ⌝ }
 {
@@ -79,6 +81,7 @@ fn is_named(soil: Soil) -> bool
     }
 }
 
+// Pervious cover asks for a named soil, impervious cover for none.
 fn soil_suits(cover: Cover, soil: Soil) -> bool
     ensures { λ r. ⌜ r ≡ suits cover soil ⌝ }
 {
@@ -117,7 +120,7 @@ pub fn runoff_column(soil: Soil) -> Column
     column(soil, Column::C)
 }
 
-// The refusal 2 of a sub-area does not arise.
+// A sub-area is not refused 2.
 fn part_fits(part: SubArea) -> bool
     ensures { λ r. ⌜ r ≡ fits part ⌝ }
 {
@@ -133,7 +136,7 @@ fn part_fits(part: SubArea) -> bool
     soil_suits(cover, soil)
 }
 
-// The refusal 3 does not arise where the area is added to the total.
+// An area added to a total is not refused 3.
 fn has_room(total: u64, area: u64) -> bool
     ensures { λ r. ⌜ r ≡ hasRoom total area ⌝ }
 {
@@ -143,6 +146,7 @@ fn has_room(total: u64, area: u64) -> bool
     area <= units::MOST_AREA - total
 }
 
+// A site without sub-areas.
 pub fn empty() -> Site
     ensures { λ r. ⌜ r ≡ emptySite ⌝ }
 {
@@ -153,12 +157,12 @@ pub fn empty() -> Site
         area: Area(0),
     };
     Site {
-        parts: [blank; 32],
+        parts: [blank; MOST_PARTS],
         count: 0,
     }
 }
 
-// The total area of a record that is judged fine.
+// A record that is judged fine answers with its total area.
 pub fn judge(site: Site) -> AreaAnswer
     ensures { λ r. ⌜ r ≡ judged site ⌝ }
 {
@@ -195,6 +199,7 @@ fn impervious_part(part: SubArea) -> u64
     }
 }
 
+// The sum over the sub-areas of a record that is judged fine.
 fn impervious_sum(site: Site) -> u64
     requires { ⌜ Fine site ⌝ }
     ensures { λ r. ⌜ r ≡ imperviousArea (partsOf site) ⌝ }
@@ -221,7 +226,8 @@ pub fn impervious_area(site: Site) -> AreaAnswer
     }
 }
 
-// The add of whoever carries the total area of a site that is judged fine: nothing is judged anew.
+// The add for whoever carries the total area of a site that is judged fine: nothing is judged anew. A granted answer
+// has the new total.
 pub fn add_to(site: Site, total: Area, part: SubArea) -> Added
     ensures { λ r. ⌜ r ≡ addedTo site (total .0) part ⌝ }
 {
@@ -254,6 +260,7 @@ pub fn add_to(site: Site, total: Area, part: SubArea) -> Added
     }
 }
 
+// The record is judged, then the sub-area is added.
 pub fn add(site: Site, part: SubArea) -> Added
     ensures { λ r. ⌜ r ≡ added site part ⌝ }
 {
