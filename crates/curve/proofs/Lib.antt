@@ -1,0 +1,5 @@
+pub mod Fits
+pub mod Segments
+pub mod Heights
+pub mod Choices
+pub mod Parts

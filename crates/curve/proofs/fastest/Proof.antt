@@ -1,0 +1,22 @@
+-- `curve::fastest` meets its contract: the rates not above the site rate are those below one more, and there is one.
+-- Assumes nothing.
+use mathlib.Core.Path.{_∙_, ap, subst}
+use Rattle.curve.proofs.Choices.{segment-some, fastest-is}
+use borrow.Author.Needs.{needs}
+use Rattle.curve.proofs.fastest.Statement.{statement}
+use Rattle.curve.proofs.fastest.Tie as tie
+
+add-segment : tie.Need-add-segment
+add-segment c = search needs
+
+segment-requires : tie.Need-segment-requires
+segment-requires c κs = search needs
+
+sub-result : tie.Need-sub-result
+sub-result c = rw (c .segment .ensures) (segment-some (c .before .before .pre))
+
+returns : tie.Need-returns
+returns c = rw (c .segment .ensures) (fastest-is (c .before .before .pre))
+
+pub fastest-spec : {M : Type 1} → statement M
+fastest-spec = tie.close (tie.spec add-segment segment-requires sub-result returns)
