@@ -145,7 +145,7 @@ neighbours {ds} {rs} {ps} {r} Mix s p =
       apart = rates-apart s (fastest rs r) h;
       short = rates-short s (fastest rs r) h;
       from = fastest-from p;
-      to = let l = fastest-to p h in omega arith
+      to = let l = fastest-to p h in omega arith;
     }))
     (λ (h : length rs ≤ fastest rs r + 1). simp (le-ltb (fastest rs r + 1) (length rs) h) (fastest-in p))
     (lt-or-le (fastest rs r + 1) (length rs))

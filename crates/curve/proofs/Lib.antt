@@ -3,3 +3,5 @@ pub mod Segments
 pub mod Heights
 pub mod Choices
 pub mod Parts
+pub mod Rising
+pub mod Answering

@@ -27,7 +27,7 @@ in-segment {ds} {rs} {ps} d {x} s e f =
       rules = s;
       within = segment-in ds (s .some-depths) x h;
       from = segment-from ds (s .some-depths) x h;
-      to = segment-to ds (s .some-depths) x h
+      to = segment-to ds (s .some-depths) x h;
     })
 
 pub line-fits : {ds rs ps : List ℕ} (j : ℕ) {k x x₀ y₀ : ℕ} → InSegment ds rs ps k x → j < length rs → x₀ ≡ previous ds (length ds) k

@@ -21,8 +21,8 @@ use Rattle.curve.specs.declared.ExactAnswer.{ExactAnswer}
 use Rattle.curve.specs.declared.ExactAnswer.the-variants as exact
 use Rattle.curve.specs.declared.PercentAnswer.{PercentAnswer}
 use Rattle.curve.specs.declared.PercentAnswer.the-variants as percent
-use Rattle.curve.specs.declared.Reach.{Reach}
-use Rattle.curve.specs.declared.Reach.the-variants as reach
+use Rattle.curve.specs.declared.Reached.{Reached}
+use Rattle.curve.specs.declared.Reached.the-variants as reach
 use Rattle.curve.specs.Curve.{curvesOf, exactAt, percentAt, rounded}
 
 -- the fastest site rate that a sheet takes: 0 where it is without rates
@@ -67,7 +67,7 @@ abbrev pub leastDepth : List ℕ → List ℕ → Curves → ℕ → ℕ
 leastDepth ds ps c target = first (λ d. ltb (percentAt ds ps c d) target) gridDepths
 
 -- an admitted sheet's least depth with its percent, or none where the target is above the percent at depth 200
-unfoldable pub reachFrom : List ℕ → List ℕ → ℕ → Admission → Reach
+unfoldable pub reachFrom : List ℕ → List ℕ → ℕ → Admission → Reached
 reachFrom ds ps target (admission.Admitted c) =
     cond (leb target (percentAt ds ps c highestDepth))
     (reach.Found (record { 0 = leastDepth ds ps c target }) (record { 0 = percentAt ds ps c (leastDepth ds ps c target) }))
@@ -75,7 +75,7 @@ reachFrom ds ps target (admission.Admitted c) =
 reachFrom ds ps target (admission.BadSheet list place) = reach.BadSheet list place
 reachFrom ds ps target (admission.Refused r) = reach.Refused r
 
-abbrev pub reachOf : List ℕ → List ℕ → List ℕ → Mode → ℕ → ℕ → Reach
+abbrev pub reachOf : List ℕ → List ℕ → List ℕ → Mode → ℕ → ℕ → Reached
 reachOf ds rs ps mode r target = reachFrom ds ps target (admissionOf ds rs ps mode r)
 
 -- the paper's number, percent, list and place
@@ -91,7 +91,7 @@ exactGiven (exact.BadSheet list place) = (numberOf UnfitSheet, 0, 0, list, place
 exactGiven (exact.Refused r) = (numberOf r, 0, 0, 0, 0)
 
 -- the paper's number, depth, percent, list and place
-abbrev pub reachGiven : Reach → ℕ × ℕ × ℕ × ℕ × ℕ
+abbrev pub reachGiven : Reached → ℕ × ℕ × ℕ × ℕ × ℕ
 reachGiven (reach.Found d p) = (granted, d .0, p .0, 0, 0)
 reachGiven reach.Short = (numberOf TargetUnreachable, 0, 0, 0, 0)
 reachGiven (reach.BadSheet list place) = (numberOf UnfitSheet, 0, 0, list, place)

@@ -9,7 +9,9 @@ ghost use Rattle.curve.specs.Ready.{OnLine, InSegment, Rated, Between, R
 ghost use Rattle.curve.specs.Answers.{fastestTaken, rated, admissionOf, exactAnswer, percentAnswer, leastDepth, reachOf};
 use refusal::Refusal;
 use sheet::Verdict;
-use units::{Depth, Percent, Rate};
+use units::Depth;
+use units::Percent;
+use units::Rate;
 
 // How the site rate picks among the sheet's rates.
 pub enum Mode {
@@ -58,7 +60,7 @@ pub enum PercentAnswer {
 }
 
 // What is found for a target: the least grid depth and its percent, or that no depth reaches it.
-pub enum Reach {
+pub enum Reached {
     Found(Depth, Percent),
     Short,
     BadSheet { list: u64, place: usize },
@@ -167,7 +169,17 @@ fn by_one(depths: &[u64], rates: &[u64], percents: &[u64], j: usize, k: usize, x
 }
 
 // The exact percent by the line between the curves of two rates.
-fn by_two(depths: &[u64], rates: &[u64], percents: &[u64], j: usize, slow: u64, fast: u64, rate: u64, k: usize, x: u64) -> Fraction
+fn by_two(
+    depths: &[u64],
+    rates: &[u64],
+    percents: &[u64],
+    j: usize,
+    slow: u64,
+    fast: u64,
+    rate: u64,
+    k: usize,
+    x: u64,
+) -> Fraction
     requires { ⌜ InSegment (now depths) (now rates) (now percents) k x ⌝ }
     requires { ⌜ Between (now rates) j slow fast rate ⌝ }
     ensures { λ r. ⌜ r ≡ exactIn (now (depths .entry)) (now (percents .entry)) (Curves.Two j slow fast rate) k x ⌝ }
@@ -189,6 +201,146 @@ fn exact_at(depths: &[u64], rates: &[u64], percents: &[u64], curves: Curves, dep
     let k = segment(depths, x);
     match curves {
         Curves::One(j) => by_one(depths, rates, percents, j, k, x),
-        Curves::Two { low, slow, fast, rate } => by_two(depths, rates, percents, low, slow, fast, rate, k, x),
+        Curves::Two {
+            low,
+            slow,
+            fast,
+            rate,
+        } => by_two(depths, rates, percents, low, slow, fast, rate, k, x),
+    }
+}
+
+// The percent at a depth: the exact one rounded down.
+fn percent_at(depths: &[u64], rates: &[u64], percents: &[u64], curves: Curves, depth: u64) -> u64
+    requires { ⌜ Ready (now depths) (now rates) (now percents) curves ⌝ }
+    ensures { λ r. ⌜ r ≡ percentAt (now (depths .entry)) (now (percents .entry)) curves depth ⌝ }
+{
+    let f = exact_at(depths, rates, percents, curves, depth);
+    f.over / f.under
+}
+
+// The least grid depth whose percent is at least the target, or 201: bisected, in at most 8 percents.
+fn least(depths: &[u64], rates: &[u64], percents: &[u64], curves: Curves, target: u64) -> u64
+    requires { ⌜ Ready (now depths) (now rates) (now percents) curves ⌝ }
+    ensures { λ r. ⌜ r ≡ leastDepth (now (depths .entry)) (now (percents .entry)) curves target ⌝ }
+{
+    let mut low = 0;
+    let mut high = Depth::HIGHEST + 1;
+    while low < high {
+        let middle = low + (high - low) / 2;
+        if percent_at(depths, rates, percents, curves, middle) < target {
+            low = middle + 1;
+            continue;
+        }
+        high = middle;
+    }
+    low
+}
+
+// The fastest site rate that a sheet takes: 0 where it is without rates.
+fn fastest_taken(rates: &[u64]) -> u64
+    ensures { λ r. ⌜ r ≡ fastestTaken (now (rates .entry)) ⌝ }
+{
+    if sheet::without_rates(rates) {
+        return 0;
+    }
+    units::MOST_RATE
+}
+
+// Tries 6 and 7, and finds the curves of the site rate.
+fn by_rate(rates: &[u64], mode: Mode, rate: u64) -> Admission
+    requires { ⌜ 1 ≤ length (now rates) ⌝ }
+    ensures { λ r. ⌜ r ≡ rated (now (rates .entry)) mode rate ⌝ }
+{
+    let most = fastest_taken(rates);
+    if most < rate {
+        return Admission::Refused(Refusal::RateOutOfRange);
+    }
+    if rate < rates[0] {
+        return Admission::Refused(Refusal::RateBelowSheet);
+    }
+    Admission::Admitted(choose(rates, mode, rate))
+}
+
+// Tries 5, 6 and 7, and finds the curves of the site rate: all that is known before a depth is.
+pub fn admit(depths: &[u64], rates: &[u64], percents: &[u64], mode: Mode, rate: Rate) -> Admission
+    ensures { λ r. ⌜ r ≡ admissionOf (now (depths .entry)) (now (rates .entry)) (now (percents .entry)) mode (rate .0) ⌝ }
+{
+    let verdict = sheet::judge(depths, rates, percents);
+    match verdict {
+        Verdict::Fine => by_rate(rates, mode, rate.0),
+        Verdict::Unfit { list, place } => Admission::BadSheet { list, place },
+    }
+}
+
+// The exact percent of a lent sheet at a site rate and a depth, before it is rounded.
+pub fn exact(
+    depths: &[u64],
+    rates: &[u64],
+    percents: &[u64],
+    mode: Mode,
+    rate: Rate,
+    depth: Depth,
+) -> ExactAnswer
+    ensures { λ r. ⌜ r ≡ exactAnswer (now (depths .entry)) (now (rates .entry)) (now (percents .entry)) mode (rate .0) (depth .0) ⌝ }
+{
+    let admission = admit(depths, rates, percents, mode, rate);
+    match admission {
+        Admission::Admitted(curves) => {
+            let d = depth.0;
+            if d <= Depth::HIGHEST {
+                return ExactAnswer::Granted(exact_at(depths, rates, percents, curves, d));
+            }
+            ExactAnswer::Refused(Refusal::AmountOutOfRange)
+        }
+        Admission::BadSheet { list, place } => ExactAnswer::BadSheet { list, place },
+        Admission::Refused(r) => ExactAnswer::Refused(r),
+    }
+}
+
+// The percent of a lent sheet at a site rate and a depth.
+pub fn percent(
+    depths: &[u64],
+    rates: &[u64],
+    percents: &[u64],
+    mode: Mode,
+    rate: Rate,
+    depth: Depth,
+) -> PercentAnswer
+    ensures { λ r. ⌜ r ≡ percentAnswer (now (depths .entry)) (now (rates .entry)) (now (percents .entry)) mode (rate .0) (depth .0) ⌝ }
+{
+    let answer = exact(depths, rates, percents, mode, rate, depth);
+    match answer {
+        ExactAnswer::Granted(f) => PercentAnswer::Granted(Percent(f.over / f.under)),
+        ExactAnswer::BadSheet { list, place } => PercentAnswer::BadSheet { list, place },
+        ExactAnswer::Refused(r) => PercentAnswer::Refused(r),
+    }
+}
+
+// The least grid depth of a lent sheet whose percent is at least the target, with that percent.
+pub fn reach(
+    depths: &[u64],
+    rates: &[u64],
+    percents: &[u64],
+    mode: Mode,
+    rate: Rate,
+    target: Percent,
+) -> Reached
+    ensures { λ r. ⌜ r ≡ reachOf (now (depths .entry)) (now (rates .entry)) (now (percents .entry)) mode (rate .0) (target .0) ⌝ }
+{
+    let admission = admit(depths, rates, percents, mode, rate);
+    match admission {
+        Admission::Admitted(curves) => {
+            let d = least(depths, rates, percents, curves, target.0);
+            if d <= Depth::HIGHEST {
+                return Reached::Found(
+                    Depth(d),
+                    Percent(percent_at(depths, rates, percents, curves, d)),
+                );
+            }
+            Reached::Short
+        }
+        Admission::BadSheet { list, place } => Reached::BadSheet { list, place },
+        Admission::Refused(r) => Reached::Refused(r),
     }
 }

@@ -2,6 +2,7 @@ pub mod Order
 pub mod First
 pub mod Walk
 pub mod Bisection
+pub mod Halving
 pub mod Quotient
 pub mod Line
 pub mod Table

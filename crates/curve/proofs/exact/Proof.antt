@@ -1,0 +1,47 @@
+-- `curve::exact` meets its contract: an admitted sheet is ready for every depth, and the depth is tried last.
+-- Assumes nothing.
+use Rattle.curve.proofs.Answering.{admitted-ready, exact-granted, exact-deep, exact-bad, exact-refused}
+use borrow.Author.Needs.{needs}
+use Rattle.curve.proofs.exact.Statement.{statement}
+use Rattle.curve.proofs.exact.Tie as tie
+
+admit-requires : tie.Need-admit-requires
+admit-requires c κs = search needs
+
+enum-known-admission : tie.Need-enum-known-admission
+enum-known-admission c = search needs
+
+exact-at-requires : tie.Need-exact-at-requires
+exact-at-requires c κs = search (admitted-ready, needs)
+
+returns : tie.Need-returns
+returns c = search (exact-granted, needs)
+
+enum-known-admission-2 : tie.Need-enum-known-admission-2
+enum-known-admission-2 c = search needs
+
+enum-known-admission-3 : tie.Need-enum-known-admission-3
+enum-known-admission-3 c = search needs
+
+returns-2 : tie.Need-returns-2
+returns-2 c = search (exact-deep, needs)
+
+returns-3 : tie.Need-returns-3
+returns-3 c = search (exact-bad, needs)
+
+returns-4 : tie.Need-returns-4
+returns-4 c = search (exact-refused, needs)
+
+pub exact-spec : {M : Type 1} → statement M
+exact-spec =
+    tie.close
+    (tie.spec
+    admit-requires
+    enum-known-admission
+    exact-at-requires
+    returns
+    enum-known-admission-2
+    enum-known-admission-3
+    returns-2
+    returns-3
+    returns-4)

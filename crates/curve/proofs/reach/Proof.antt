@@ -1,0 +1,51 @@
+-- `curve::reach` meets its contract: an admitted sheet is ready for every depth, and the least depth is on the grid where the target is reached.
+-- Assumes nothing.
+use Rattle.curve.proofs.Answering.{admitted-ready, reach-found, reach-short, reach-bad, reach-refused}
+use borrow.Author.Needs.{needs}
+use Rattle.curve.proofs.reach.Statement.{statement}
+use Rattle.curve.proofs.reach.Tie as tie
+
+admit-requires : tie.Need-admit-requires
+admit-requires c κs = search needs
+
+enum-known-admission : tie.Need-enum-known-admission
+enum-known-admission c = search needs
+
+least-requires : tie.Need-least-requires
+least-requires c κs = search (admitted-ready, needs)
+
+percent-at-requires : tie.Need-percent-at-requires
+percent-at-requires c κs = search (admitted-ready, needs)
+
+returns : tie.Need-returns
+returns c = search (reach-found, needs)
+
+enum-known-admission-2 : tie.Need-enum-known-admission-2
+enum-known-admission-2 c = search needs
+
+enum-known-admission-3 : tie.Need-enum-known-admission-3
+enum-known-admission-3 c = search needs
+
+returns-2 : tie.Need-returns-2
+returns-2 c = search (reach-short, needs)
+
+returns-3 : tie.Need-returns-3
+returns-3 c = search (reach-bad, needs)
+
+returns-4 : tie.Need-returns-4
+returns-4 c = search (reach-refused, needs)
+
+pub reach-spec : {M : Type 1} → statement M
+reach-spec =
+    tie.close
+    (tie.spec
+    admit-requires
+    enum-known-admission
+    least-requires
+    percent-at-requires
+    returns
+    enum-known-admission-2
+    enum-known-admission-3
+    returns-2
+    returns-3
+    returns-4)
