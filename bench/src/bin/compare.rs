@@ -1,0 +1,196 @@
+//! Compares the proved library with the Rust code on inputs made from a seed, and runs the vectors on both.
+//!
+//!     compare [--seed N] [--count N] [--vectors FOLDER]
+//!
+//! Every byte of what is lent is compared: the answer's buffer, with the bytes after the text and about the buffer, and
+//! the job and the sheet, which no call may change. The exit status is 1 where anything differs.
+
+use std::path::Path;
+use std::process::ExitCode;
+
+use bench::generate::{self, OwnSheet};
+use bench::random::Random;
+use bench::{linked, reference, rows, Sheet};
+
+/// Bytes that stand on each side of a lent buffer, in the same allocation.
+const MARGIN: usize = 24;
+
+#[derive(Default)]
+struct Seen {
+    compared: u64,
+    differed: u64,
+    /// How often each number was given back by a job, by a sheet's percent and by a reading.
+    jobs: [u64; 16],
+    percents: [u64; 16],
+    readings: [u64; 16],
+    too_short: u64,
+    longest: usize,
+}
+
+impl Seen {
+    fn note(&mut self, same: bool, what: impl FnOnce() -> String) {
+        self.compared += 1;
+        if !same {
+            self.differed += 1;
+            if self.differed <= 10 {
+                println!("differs: {}", what());
+            }
+        }
+    }
+}
+
+fn shown(text: &[u8]) -> String {
+    String::from_utf8_lossy(text).escape_debug().to_string()
+}
+
+/// The number on the first line of an answer text.
+fn number_of(text: &[u8]) -> usize {
+    text.iter().skip(7).take_while(|b| b.is_ascii_digit()).fold(0, |n, b| n * 10 + (b - b'0') as usize)
+}
+
+fn answered(sheet: Option<Sheet>, job: &[u8], ours: bool, text: &mut [u8]) -> usize {
+    match (sheet, ours) {
+        (None, true) => linked::answer(job, text),
+        (None, false) => reference::answer(job, text),
+        (Some(sheet), true) => linked::answer_on(job, sheet, text),
+        (Some(sheet), false) => reference::answer_on(job, sheet, text),
+    }
+}
+
+fn compare_job(seen: &mut Seen, random: &mut Random, job: Vec<u8>, sheet: Option<Sheet>) {
+    let mut whole = [0; 256];
+    let length = answered(sheet, &job, false, &mut whole);
+    seen.jobs[number_of(&whole[..length])] += 1;
+    seen.longest = seen.longest.max(job.len());
+    let room = match random.below(6) {
+        0 => random.below(length as u64 + 1) as usize,
+        1 => length,
+        2 => length - 1,
+        3 => length + 1,
+        _ => length + random.below(200) as usize,
+    };
+    let before: Vec<u8> = (0..room + 2 * MARGIN).map(|_| random.next() as u8).collect();
+    let (mut ours, mut theirs) = (before.clone(), before);
+    let copy = job.clone();
+    let our_length = answered(sheet, &job, true, &mut ours[MARGIN..MARGIN + room]);
+    let their_length = answered(sheet, &job, false, &mut theirs[MARGIN..MARGIN + room]);
+    seen.too_short += (their_length == 0) as u64;
+    let (our_part, their_part) = (linked::fault(&job), reference::fault(&job));
+    let same = our_length == their_length && ours == theirs && our_part == their_part && job == copy;
+    seen.note(same, || {
+        format!(
+            "job \"{}\" with {:?} and room {}: {} \"{}\" {:?}, and the Rust code {} \"{}\" {:?}",
+            shown(&copy),
+            sheet,
+            room,
+            our_length,
+            shown(&ours[MARGIN..MARGIN + our_length.min(room)]),
+            our_part,
+            their_length,
+            shown(&theirs[MARGIN..MARGIN + their_length]),
+            their_part
+        )
+    });
+}
+
+fn compare_sheet(seen: &mut Seen, random: &mut Random, own: &OwnSheet) {
+    let sheet = own.lend();
+    let copies = (own.depths.clone(), own.rates.clone(), own.percents.clone());
+    let (mix, rate, depth) = (random.one_in(2), generate::rate_for(random, sheet), generate::depth(random));
+    let ours = (linked::sheet(sheet), linked::percent(sheet, mix, rate, depth));
+    let theirs = (reference::sheet(sheet), reference::percent(sheet, mix, rate, depth));
+    seen.percents[theirs.1.answer as usize] += 1;
+    let kept = own.depths == copies.0 && own.rates == copies.1 && own.percents == copies.2;
+    seen.note(ours == theirs && kept, || {
+        format!("{:?} mix {} rate {} depth {}: {:?}, and the Rust code {:?}", sheet, mix, rate, depth, ours, theirs)
+    });
+}
+
+fn compare_reading(seen: &mut Seen, random: &mut Random) {
+    let (millimetres, reading) = (random.one_in(2), generate::reading(random));
+    let ours = linked::reading(millimetres, reading);
+    let theirs = reference::reading(millimetres, reading);
+    seen.readings[theirs.answer as usize] += 1;
+    seen.note(ours == theirs, || {
+        format!("reading {:#x} mm {}: {:?}, and the Rust code {:?}", reading.to_bits(), millimetres, ours, theirs)
+    });
+}
+
+fn compare_one(seen: &mut Seen, random: &mut Random) {
+    match random.below(20) {
+        0..=4 => {
+            let job = generate::job(random);
+            compare_job(seen, random, job, None)
+        }
+        5..=9 => {
+            let job = generate::damaged(random);
+            compare_job(seen, random, job, None)
+        }
+        10 => {
+            let length = random.below(120);
+            let job = (0..length).map(|_| random.pick(b"practice=basin\n0123456789,-\xff")).collect();
+            compare_job(seen, random, job, None)
+        }
+        11..=14 => {
+            let own = if random.one_in(8) { generate::broken_sheet(random) } else { generate::sheet(random) };
+            let job = generate::job_for(random, own.lend());
+            compare_job(seen, random, job, Some(own.lend()))
+        }
+        15 | 16 => {
+            let own = generate::sheet(random);
+            compare_sheet(seen, random, &own)
+        }
+        17 => {
+            let own = generate::broken_sheet(random);
+            compare_sheet(seen, random, &own)
+        }
+        _ => compare_reading(seen, random),
+    }
+}
+
+fn told(numbers: &[u64; 16]) -> String {
+    let pairs = numbers.iter().enumerate().filter(|(_, &count)| count > 0);
+    pairs.map(|(number, count)| format!("{}: {}", number, count)).collect::<Vec<_>>().join(", ")
+}
+
+fn main() -> ExitCode {
+    let (mut seed, mut count, mut vectors) = (8, 240_000, None);
+    let mut words = std::env::args().skip(1);
+    while let Some(word) = words.next() {
+        let value = words.next().unwrap_or_default();
+        match word.as_str() {
+            "--seed" => seed = value.parse().expect("--seed takes a whole number"),
+            "--count" => count = value.parse().expect("--count takes a whole number"),
+            "--vectors" => vectors = Some(value),
+            _ => panic!("compare [--seed N] [--count N] [--vectors FOLDER]"),
+        }
+    }
+    println!("seed {}", seed);
+    let mut random = Random::from(seed);
+    let mut seen = Seen::default();
+    for _ in 0..count {
+        compare_one(&mut seen, &mut random);
+    }
+    println!("{} inputs compared, {} differed", seen.compared, seen.differed);
+    println!("numbers given back, by jobs: {}", told(&seen.jobs));
+    println!("  by percents of a sheet: {}", told(&seen.percents));
+    println!("  by readings: {}", told(&seen.readings));
+    println!("  buffers too short for the text (13): {}; longest job text: {} bytes", seen.too_short, seen.longest);
+    let mut whole = seen.differed == 0;
+    match vectors {
+        None => println!("no folder of vectors was given: none was run"),
+        Some(folder) => {
+            for calls in [&linked::CALLS, &reference::CALLS] {
+                for tally in rows::run(Path::new(&folder), calls) {
+                    println!("{}: {} of {} rows held by {}", tally.kind, tally.held, tally.rows, calls.name);
+                    whole &= tally.held == tally.rows;
+                }
+            }
+        }
+    }
+    if whole {
+        ExitCode::SUCCESS
+    } else {
+        ExitCode::FAILURE
+    }
+}

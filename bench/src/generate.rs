@@ -1,0 +1,324 @@
+//! Inputs made from a seed: job texts, sheets and readings, valid and damaged, short and long.
+
+use crate::random::Random;
+use crate::tables::PUBLISHED;
+use crate::Sheet;
+
+pub const PRACTICES: [&str; 9] =
+    ["trench", "basin", "biofilter", "wetland", "isr", "sand", "wetpond", "drypond", "swale"];
+pub const LAND_USES: [&str; 9] = ["com", "ind", "hdr", "mdr", "ldr", "hwy", "for", "open", "ag"];
+pub const SOILS: [&str; 7] = ["A", "B", "C", "CD", "D", "U", "-"];
+
+const RATES: [u64; 14] = [0, 1, 16, 17, 26, 27, 39, 52, 102, 240, 241, 827, 10_000, 10_001];
+const KEYS: [&str; 7] = ["practice=", "nutrient=", "mode=", "rate=", "task=", "amount=", "area="];
+
+/// Numbers at and about the limits, and numbers with too many digits or a leading zero.
+#[rustfmt::skip]
+const ODD_NUMBERS: [&str; 20] = [
+    "", "0", "00", "1", "01", "10000", "10001", "100000", "100001", "999999", "1000000", "1000001", "9999999999999",
+    "10000000000000", "10000000000001", "99999999999999", "100000000000000", "18446744073709551616", "-1", "1e3",
+];
+
+fn digits(random: &mut Random) -> String {
+    if random.one_in(3) {
+        return random.pick(&ODD_NUMBERS).to_string();
+    }
+    let most = 10u64.pow(random.within(1, 14) as u32);
+    random.below(most).to_string()
+}
+
+fn sub_area(random: &mut Random, area: u64) -> String {
+    let land_use = random.pick(&LAND_USES);
+    if random.one_in(2) {
+        format!("area={},imp,-,{}\n", land_use, area)
+    } else {
+        format!("area={},per,{},{}\n", land_use, random.pick(&SOILS[..6]), area)
+    }
+}
+
+/// The areas of a job: one or a few, many, or about as many as a site holds; within the total or about at it.
+fn areas(random: &mut Random) -> Vec<u64> {
+    let count = match random.below(8) {
+        0 => 1,
+        1 | 2 | 3 => random.within(1, 6),
+        4 | 5 => random.within(7, 31),
+        6 => random.within(31, 34),
+        _ => 32,
+    };
+    let most = if random.one_in(12) {
+        2_000_000 / count
+    } else {
+        (1_000_000 / count).min(10u64.pow(random.within(1, 6) as u32))
+    };
+    let mut areas: Vec<u64> = (0..count).map(|_| random.within(1, most)).collect();
+    if random.one_in(6) {
+        let others: u64 = areas[1..].iter().sum();
+        areas[0] = 1_000_000u64.saturating_sub(others) + random.below(3);
+    }
+    areas
+}
+
+/// A job text of the right form, most often one that is granted.
+pub fn job(random: &mut Random) -> Vec<u8> {
+    let practice = random.below(9) as usize;
+    let without_rates = practice >= 2;
+    let rate = match random.below(10) {
+        0 => random.pick(&RATES),
+        _ if without_rates => 0,
+        1 => 10_000 - random.below(200),
+        _ => random.within(17, 900),
+    };
+    let task = random.pick(&["load", "credit", "credit", "size", "size"]);
+    let areas = areas(random);
+    let amount = match (task, random.below(12)) {
+        (_, 0) => random.pick(&[0, 1, 100_000, 100_001, 10_000_000_000_000, 10_000_000_000_001, 99_999_999_999_999]),
+        ("load", _) => 0,
+        ("credit", _) => random.below(121 * 300 * 210 * areas.iter().sum::<u64>().max(1)),
+        _ => random.below(100_001),
+    };
+    let mut text = format!(
+        "practice={}\nnutrient={}\nmode={}\nrate={}\ntask={}\namount={}\n",
+        PRACTICES[practice],
+        random.pick(&["P", "N"]),
+        random.pick(&["step", "mix"]),
+        rate,
+        task,
+        amount,
+    );
+    for area in areas {
+        text += &sub_area(random, area);
+    }
+    text.into_bytes()
+}
+
+/// Harm to a job text: bytes, lines, fields or numbers changed, put in, taken out, cut off or put at the end.
+pub fn damaged(random: &mut Random) -> Vec<u8> {
+    let mut text = job(random);
+    for _ in 0..random.within(1, 3) {
+        text = harm(random, text);
+    }
+    text
+}
+
+fn harm(random: &mut Random, mut text: Vec<u8>) -> Vec<u8> {
+    let place = random.below(text.len() as u64 + 1) as usize;
+    let odd = random.pick(b"\n\n\r\0 ,=-AaZz0019\xff\x80");
+    match random.below(14) {
+        0 => text.truncate(place),
+        1 => text.insert(place, odd),
+        2 if place < text.len() => text[place] = odd,
+        3 if place < text.len() => drop(text.remove(place)),
+        4 => text.push(odd),
+        5 if place < text.len() => text[place] ^= 1 << random.below(8),
+        6 => text.extend_from_slice(random.pick(&KEYS).as_bytes()),
+        7 => {
+            let line = format!(
+                "area={},{},{},{}\n",
+                random.pick(&LAND_USES),
+                random.pick(&["imp", "per"]),
+                random.pick(&SOILS),
+                digits(random)
+            );
+            text.extend_from_slice(line.as_bytes());
+        }
+        8 => {
+            // To just below, at or above the longest length, with lines or with one byte.
+            let length = random.within(4090, 4100) as usize;
+            if random.one_in(2) {
+                while text.len() < length {
+                    let area = random.within(1, 999);
+                    text.extend_from_slice(sub_area(random, area).as_bytes());
+                }
+            }
+            text.resize(length, odd);
+        }
+        n => return with_line_harmed(random, &text, n),
+    }
+    text
+}
+
+fn with_line_harmed(random: &mut Random, text: &[u8], kind: u64) -> Vec<u8> {
+    let mut lines: Vec<Vec<u8>> = text.split_inclusive(|&b| b == b'\n').map(|l| l.to_vec()).collect();
+    if lines.is_empty() {
+        return Vec::new();
+    }
+    let (one, two) = (random.below(lines.len() as u64) as usize, random.below(lines.len() as u64) as usize);
+    match kind {
+        9 => lines.swap(one, two),
+        10 => drop(lines.remove(one)),
+        11 => lines.insert(one, lines[two].clone()),
+        12 => {
+            // Another value after the key, or after the last comma.
+            let keep = lines[one].iter().rposition(|&b| b == b'=' || b == b',').map_or(0, |at| at + 1);
+            lines[one].truncate(keep);
+            lines[one].extend_from_slice(digits(random).as_bytes());
+            lines[one].push(b'\n');
+        }
+        _ => {
+            let words = [
+                "P", "N", "step", "mix", "load", "credit", "size", "basin", "imp", "per", "CD", "U", "Basin", "p", "c",
+            ];
+            let keep = lines[one].iter().position(|&b| b == b'=').map_or(0, |at| at + 1);
+            lines[one].truncate(keep);
+            lines[one].extend_from_slice(random.pick(&words).as_bytes());
+            lines[one].push(b'\n');
+        }
+    }
+    lines.concat()
+}
+
+/// A sheet that owns its lists.
+pub struct OwnSheet {
+    pub depths: Vec<u64>,
+    pub rates: Vec<u64>,
+    pub percents: Vec<u64>,
+}
+
+impl OwnSheet {
+    pub fn lend(&self) -> Sheet<'_> {
+        Sheet { depths: &self.depths, rates: &self.rates, percents: &self.percents }
+    }
+}
+
+fn rising(random: &mut Random, count: u64, most: u64) -> Vec<u64> {
+    let mut list = Vec::new();
+    while (list.len() as u64) < count {
+        let number = random.within(1, most);
+        if !list.contains(&number) {
+            list.push(number);
+        }
+    }
+    list.sort_unstable();
+    list
+}
+
+/// A sheet that keeps every rule: a published one now and then, one of the largest size now and then.
+pub fn sheet(random: &mut Random) -> OwnSheet {
+    if random.one_in(10) {
+        let published = PUBLISHED[random.below(9) as usize][random.below(2) as usize];
+        return OwnSheet {
+            depths: published.depths.to_vec(),
+            rates: published.rates.to_vec(),
+            percents: published.percents.to_vec(),
+        };
+    }
+    let (most_depths, most_rates) =
+        if random.one_in(8) { (16, 8) } else { (random.within(1, 16), random.within(1, 8)) };
+    let depths = rising(random, most_depths, random_of(&[200, 60, 16], most_depths));
+    let rates = if most_rates == 1 && random.one_in(2) {
+        vec![0]
+    } else {
+        rising(random, most_rates, random_of(&[10_000, 900, 12], most_depths + most_rates))
+    };
+    let mut percents = Vec::new();
+    for _ in 0..rates.len() {
+        let mut curve: Vec<u64> = depths
+            .iter()
+            .map(|_| match random.below(8) {
+                0 => random.pick(&[0, 100_000]),
+                1 => random.below(101) * 1000,
+                _ => random.below(100_001),
+            })
+            .collect();
+        curve.sort_unstable();
+        percents.extend(curve);
+    }
+    OwnSheet { depths, rates, percents }
+}
+
+/// One of three limits, chosen by a number, so that some sheets are crowded and some are wide.
+fn random_of(limits: &[u64; 3], n: u64) -> u64 {
+    limits[(n % 3) as usize]
+}
+
+/// A sheet with one or two rules broken: a number changed, two swapped, a list made longer or shorter or empty.
+pub fn broken_sheet(random: &mut Random) -> OwnSheet {
+    let mut sheet = self::sheet(random);
+    for _ in 0..random.within(1, 2) {
+        let list = match random.below(3) {
+            0 => &mut sheet.depths,
+            1 => &mut sheet.rates,
+            _ => &mut sheet.percents,
+        };
+        let odd = random.pick(&[0, 0, 1, 2, 199, 200, 201, 10_000, 10_001, 99_999, 100_000, 100_001, u64::MAX]);
+        let place = random.below(list.len() as u64 + 1) as usize;
+        match random.below(9) {
+            0 => list.insert(place, odd),
+            1 => list.clear(),
+            2 => list.truncate(place),
+            3 => list.extend_from_slice(&list.clone()),
+            4 if place > 1 => list.swap(place - 1, place - 2),
+            5 if place > 1 => list[place - 1] = list[place - 2],
+            _ if place > 0 => list[place - 1] = odd,
+            _ => list.push(odd),
+        }
+    }
+    sheet
+}
+
+/// A rate for a sheet: at or about one of its own rates, anywhere, or out of range.
+pub fn rate_for(random: &mut Random, sheet: Sheet) -> u64 {
+    match random.below(8) {
+        0 => random.pick(&RATES),
+        1 => random.below(10_100),
+        2 => random.pick(&[0, 10_000, 10_001, u64::MAX]),
+        _ if sheet.rates.is_empty() => 0,
+        _ => {
+            let near = random.pick(sheet.rates);
+            match random.below(4) {
+                0 => near.saturating_add(1),
+                1 => near.saturating_sub(1),
+                2 => near.saturating_add(random.below(500)),
+                _ => near,
+            }
+        }
+    }
+}
+
+/// A job for a lent sheet: its rate is near the sheet's, its practice is anything.
+pub fn job_for(random: &mut Random, sheet: Sheet) -> Vec<u8> {
+    let text = job(random);
+    let rate = rate_for(random, sheet);
+    let mut lines: Vec<Vec<u8>> = text.split_inclusive(|&b| b == b'\n').map(|l| l.to_vec()).collect();
+    lines[3] = format!("rate={}\n", rate % 100_000_000_000_000).into_bytes();
+    let text = lines.concat();
+    if random.one_in(10) {
+        harm(random, text)
+    } else {
+        text
+    }
+}
+
+/// A depth: on the grid, at its end, or beyond.
+pub fn depth(random: &mut Random) -> u64 {
+    match random.below(12) {
+        0 => random.pick(&[0, 1, 199, 200, 201, 202, 65_536, u64::MAX]),
+        _ => random.below(201),
+    }
+}
+
+/// A reading: any bits, an ordinary value, or the floats about a hundredth's edge.
+pub fn reading(random: &mut Random) -> f32 {
+    let bits = random.next() as u32;
+    match random.below(6) {
+        0 => f32::from_bits(bits),
+        1 => f32::from_bits(bits & 0x7fff_ffff),
+        2 => random.pick(&[
+            0.0,
+            -0.0,
+            f32::NAN,
+            f32::INFINITY,
+            f32::NEG_INFINITY,
+            f32::MIN_POSITIVE,
+            -1.0,
+            100.0,
+            2540.0,
+        ]),
+        3 => (bits % 12_000) as f32 / 100.0,
+        4 => (bits % 300_000) as f32 / 100.0,
+        _ => {
+            let edge = random.below(10_003) as f32 / if random.one_in(2) { 100.0 } else { 100.0 / 25.4 };
+            f32::from_bits((edge.to_bits() as i64 + random.below(5) as i64 - 2).max(0) as u32)
+        }
+    }
+}

@@ -1,0 +1,68 @@
+//! What the proved library is compared with and measured against: the same calculator written in Rust straight from
+//! the rules and from document 001, sharing nothing with it.
+
+pub mod generate;
+#[cfg(feature = "linked")]
+pub mod linked;
+pub mod random;
+pub mod reference;
+pub mod rows;
+pub mod tables;
+
+/// A curve sheet: depths, rates, and percents rate by rate.
+#[derive(Clone, Copy, Debug)]
+pub struct Sheet<'a> {
+    pub depths: &'a [u64],
+    pub rates: &'a [u64],
+    pub percents: &'a [u64],
+}
+
+/// The offending part of a job text: where it starts, and its length.
+#[repr(C)]
+#[derive(Clone, Copy, Debug, PartialEq, Eq)]
+pub struct Part {
+    pub from: usize,
+    pub len: usize,
+}
+
+/// What the test of a sheet answers: 0, or 5 with a list and a place in it.
+#[repr(C)]
+#[derive(Clone, Copy, Debug, PartialEq, Eq)]
+pub struct Verdict {
+    pub answer: u64,
+    pub list: u64,
+    pub place: u64,
+}
+
+/// A number given back and a value, which is 0 beside a refusal.
+#[repr(C)]
+#[derive(Clone, Copy, Debug, PartialEq, Eq)]
+pub struct Value {
+    pub answer: u64,
+    pub value: u64,
+}
+
+impl Value {
+    pub fn granted(value: u64) -> Value {
+        Value { answer: 0, value }
+    }
+
+    pub fn refused(answer: u64) -> Value {
+        Value { answer, value: 0 }
+    }
+}
+
+/// The six calls of the C interface, as either side gives them.
+pub struct Calls {
+    pub name: &'static str,
+    /// The answer text of a job, on the published tables: its length, or 0 where the buffer is too short.
+    pub answer: fn(&[u8], &mut [u8]) -> usize,
+    /// The same with a lent sheet in the place of the tables.
+    pub answer_on: fn(&[u8], Sheet, &mut [u8]) -> usize,
+    pub fault: fn(&[u8]) -> Part,
+    pub sheet: fn(Sheet) -> Verdict,
+    /// The percent of a sheet in a mode (mix or step), at a rate and a depth.
+    pub percent: fn(Sheet, bool, u64, u64) -> Value,
+    /// The rate of a reading in millimetres or inches per hour.
+    pub reading: fn(bool, f32) -> Value,
+}

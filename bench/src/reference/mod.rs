@@ -1,0 +1,108 @@
+//! The calculator in Rust.
+
+mod answer;
+mod curve;
+mod job;
+mod probe;
+mod site;
+
+use crate::tables::PUBLISHED;
+use crate::{Calls, Part, Sheet, Value, Verdict};
+use answer::{Figures, Outcome};
+use curve::Curve;
+use job::{Job, Task};
+use site::{Ground, GRID};
+
+const LARGEST: u64 = 10_000_000_000_000;
+const MOST_PERCENT: u64 = 100_000;
+
+pub const CALLS: Calls = Calls { name: "the Rust code", answer, answer_on, fault, sheet, percent, reading };
+
+/// The answer text of a job on the published tables, written into `text`: its length, or 0 where it does not fit.
+pub fn answer(job: &[u8], text: &mut [u8]) -> usize {
+    outcome(job, None).write(text)
+}
+
+/// The same with a lent sheet in the place of the tables.
+pub fn answer_on(job: &[u8], sheet: Sheet, text: &mut [u8]) -> usize {
+    outcome(job, Some(sheet)).write(text)
+}
+
+/// The part of a job text that refusal 1 is about; empty at the end where the text is not refused 1.
+pub fn fault(job: &[u8]) -> Part {
+    match job::read(job) {
+        Err(fault) if fault.answer == 1 => fault.part,
+        _ => Part { from: job.len(), len: 0 },
+    }
+}
+
+/// The test of a sheet.
+pub fn sheet(sheet: Sheet) -> Verdict {
+    curve::judge(sheet)
+}
+
+/// The percent of a lent sheet at a rate and a depth.
+pub fn percent(sheet: Sheet, mix: bool, rate: u64, depth: u64) -> Value {
+    if curve::judge(sheet).answer != 0 {
+        return Value::refused(5);
+    }
+    match Curve::of(sheet, mix, rate) {
+        Err(answer) => Value::refused(answer),
+        Ok(_) if depth > GRID => Value::refused(9),
+        Ok(curve) => Value::granted(curve.percent(depth)),
+    }
+}
+
+/// The rate of a probe reading.
+pub fn reading(millimetres: bool, reading: f32) -> Value {
+    probe::rate(millimetres, reading)
+}
+
+fn outcome(text: &[u8], lent: Option<Sheet>) -> Outcome {
+    let job = match job::read(text) {
+        Ok(job) => job,
+        Err(fault) => return Outcome::Refused { answer: fault.answer, line: fault.line },
+    };
+    match figures(&job, lent) {
+        Ok(figures) => Outcome::Granted(figures),
+        Err(answer) => Outcome::Refused { answer, line: 0 },
+    }
+}
+
+fn figures(job: &Job, lent: Option<Sheet>) -> Result<Figures, u64> {
+    if job.task == Task::Load {
+        if job.amount != 0 {
+            return Err(9);
+        }
+        let load = job.site.load(job.nutrient);
+        return if load > LARGEST { Err(15) } else { Ok(Figures { load, ..Figures::default() }) };
+    }
+    let sheet = match lent {
+        Some(sheet) if curve::judge(sheet).answer != 0 => return Err(5),
+        Some(sheet) => sheet,
+        None => PUBLISHED[job.practice][job.nutrient],
+    };
+    let curve = Curve::of(sheet, job.mix, job.rate)?;
+    let ground = Ground::of(&job.site);
+    if ground.impervious == 0 {
+        return Err(8);
+    }
+    if job.amount > if job.task == Task::Credit { LARGEST } else { MOST_PERCENT } {
+        return Err(9);
+    }
+    let load = job.site.load(job.nutrient);
+    if load > LARGEST || ground.volume(GRID) > LARGEST {
+        return Err(15);
+    }
+    let (depth, volume) = if job.task == Task::Credit {
+        (ground.depth(job.amount), job.amount)
+    } else {
+        if job.amount > curve.percent(GRID) {
+            return Err(10);
+        }
+        let depth = curve.depth(job.amount);
+        (depth, ground.volume(depth))
+    };
+    let credit = curve.percent(depth);
+    Ok(Figures { load, depth, credit, volume, removed: load * credit / MOST_PERCENT })
+}

@@ -1,0 +1,208 @@
+//! The rows of the vectors: jobs.jsonl, sheets.jsonl and readings.jsonl, one record a line.
+
+use std::fs;
+use std::path::Path;
+
+use crate::{Calls, Part, Sheet, Value, Verdict};
+
+/// As much of JSON as the rows have.
+enum Json {
+    Number(u64),
+    Text(String),
+    List(Vec<Json>),
+    Record(Vec<(String, Json)>),
+}
+
+impl Json {
+    fn get(&self, key: &str) -> Option<&Json> {
+        match self {
+            Json::Record(fields) => fields.iter().find(|(name, _)| name == key).map(|(_, value)| value),
+            _ => None,
+        }
+    }
+
+    fn number(&self, key: &str) -> u64 {
+        match self.get(key) {
+            Some(Json::Number(n)) => *n,
+            _ => panic!("a row has no number {}", key),
+        }
+    }
+
+    fn text(&self, key: &str) -> &str {
+        match self.get(key) {
+            Some(Json::Text(s)) => s,
+            _ => panic!("a row has no text {}", key),
+        }
+    }
+
+    fn list(&self, key: &str) -> &[Json] {
+        match self.get(key) {
+            Some(Json::List(l)) => l,
+            _ => panic!("a row has no list {}", key),
+        }
+    }
+
+    fn numbers(&self, key: &str) -> Vec<u64> {
+        let number = |json: &Json| match json {
+            Json::Number(n) => *n,
+            _ => panic!("{} holds more than numbers", key),
+        };
+        self.list(key).iter().map(number).collect()
+    }
+}
+
+struct Reader<'a> {
+    rest: &'a [u8],
+}
+
+impl<'a> Reader<'a> {
+    fn peek(&mut self) -> u8 {
+        while let [b' ', rest @ ..] = self.rest {
+            self.rest = rest;
+        }
+        *self.rest.first().expect("a row ends early")
+    }
+
+    fn take(&mut self, byte: u8) {
+        assert_eq!(self.peek(), byte, "a row is not of the form expected");
+        self.rest = &self.rest[1..];
+    }
+
+    /// The items up to a closing byte, with commas between them.
+    fn items(&mut self, open: u8, close: u8, mut item: impl FnMut(&mut Self)) {
+        self.take(open);
+        while self.peek() != close {
+            item(self);
+            if self.peek() == b',' {
+                self.take(b',');
+            }
+        }
+        self.take(close);
+    }
+
+    fn string(&mut self) -> String {
+        self.take(b'"');
+        let mut bytes = Vec::new();
+        loop {
+            match self.rest {
+                [b'"', rest @ ..] => {
+                    self.rest = rest;
+                    return String::from_utf8(bytes).expect("a text is not UTF-8");
+                }
+                [b'\\', b'n', rest @ ..] => {
+                    bytes.push(b'\n');
+                    self.rest = rest;
+                }
+                [b'\\', ..] | [] => panic!("a text has an escape other than \\n, or no end"),
+                [byte, rest @ ..] => {
+                    bytes.push(*byte);
+                    self.rest = rest;
+                }
+            }
+        }
+    }
+
+    fn value(&mut self) -> Json {
+        match self.peek() {
+            b'"' => Json::Text(self.string()),
+            b'[' => {
+                let mut list = Vec::new();
+                self.items(b'[', b']', |r| list.push(r.value()));
+                Json::List(list)
+            }
+            b'{' => {
+                let mut fields = Vec::new();
+                self.items(b'{', b'}', |r| {
+                    let name = r.string();
+                    r.take(b':');
+                    fields.push((name, r.value()));
+                });
+                Json::Record(fields)
+            }
+            _ => {
+                let end = self.rest.iter().position(|b| !b.is_ascii_digit()).unwrap_or(self.rest.len());
+                let (digits, rest) = self.rest.split_at(end);
+                self.rest = rest;
+                Json::Number(std::str::from_utf8(digits).unwrap().parse().expect("a number is not whole, or too large"))
+            }
+        }
+    }
+}
+
+fn rows(path: &Path) -> Vec<Json> {
+    let text = fs::read_to_string(path).unwrap_or_else(|e| panic!("{}: {}", path.display(), e));
+    text.lines().map(|line| Reader { rest: line.as_bytes() }.value()).collect()
+}
+
+fn bytes_of_hex(hex: &str) -> Vec<u8> {
+    let digit = |b: u8| (b as char).to_digit(16).expect("a job is not hexadecimal") as u8;
+    hex.as_bytes().chunks(2).map(|pair| digit(pair[0]) * 16 + digit(pair[1])).collect()
+}
+
+/// How many rows of a kind held, and how many there were.
+pub struct Tally {
+    pub kind: &'static str,
+    pub held: usize,
+    pub rows: usize,
+}
+
+fn tally(kind: &'static str, folder: &Path, calls: &Calls, holds: fn(&Calls, &Json) -> bool) -> Tally {
+    let rows = rows(&folder.join(kind).with_extension("jsonl"));
+    let mut held = 0;
+    for (number, row) in rows.iter().enumerate() {
+        if holds(calls, row) {
+            held += 1;
+        } else {
+            println!("{}.jsonl, row {}: {} gives something else", kind, number + 1, calls.name);
+        }
+    }
+    Tally { kind, held, rows: rows.len() }
+}
+
+/// Runs every row of a folder on one side.
+pub fn run(folder: &Path, calls: &Calls) -> Vec<Tally> {
+    vec![
+        tally("jobs", folder, calls, job_holds),
+        tally("sheets", folder, calls, sheet_holds),
+        tally("readings", folder, calls, reading_holds),
+    ]
+}
+
+/// A job's answer text, into a buffer that is larger, one that is just large enough, and one that is too small; and
+/// the offending part, which a row gives from its first byte to the one after its last.
+fn job_holds(calls: &Calls, row: &Json) -> bool {
+    let job = bytes_of_hex(row.text("job"));
+    let text = row.text("answer").as_bytes();
+    let answers = [text.len() + 9, text.len(), text.len() - 1, 0].iter().all(|&room| {
+        let mut buffer = vec![b'#'; room];
+        let mut expected = buffer.clone();
+        let length = if room < text.len() { 0 } else { text.len() };
+        expected[..length].copy_from_slice(&text[..length]);
+        (calls.answer)(&job, &mut buffer) == length && buffer == expected
+    });
+    let part = match row.get("part") {
+        Some(_) => {
+            let ends = row.numbers("part");
+            Part { from: ends[0] as usize, len: (ends[1] - ends[0]) as usize }
+        }
+        None => Part { from: job.len(), len: 0 },
+    };
+    answers && (calls.fault)(&job) == part
+}
+
+fn sheet_holds(calls: &Calls, row: &Json) -> bool {
+    let (depths, rates, percents) = (row.numbers("depths"), row.numbers("rates"), row.numbers("percents"));
+    let sheet = Sheet { depths: &depths, rates: &rates, percents: &percents };
+    let verdict = Verdict { answer: row.number("answer"), list: row.number("list"), place: row.number("place") };
+    let asked = row.list("asked").iter().all(|asked| {
+        let value = Value { answer: asked.number("answer"), value: asked.number("percent") };
+        let mix = asked.text("mode") == "mix";
+        (calls.percent)(sheet, mix, asked.number("rate"), asked.number("depth")) == value
+    });
+    asked && (calls.sheet)(sheet) == verdict
+}
+
+fn reading_holds(calls: &Calls, row: &Json) -> bool {
+    let value = Value { answer: row.number("answer"), value: row.number("rate") };
+    (calls.reading)(row.text("unit") == "mm", f32::from_bits(row.number("bits") as u32)) == value
+}

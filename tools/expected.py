@@ -1,0 +1,163 @@
+#!/usr/bin/env python3
+"""Makes the stored output of the program `vectors` from source document 001 and the rules, not using the library.
+
+    tools/expected.py DOCUMENT > crates/vectors/stdout
+
+The program prints lines of a word and whole numbers, with single spaces between them. Numbers stand for things as the
+rules number them: practices 0 to 8; nutrients P 0, N 1; modes step 0, mix 1; land uses com, ind, hdr, mdr, ldr, hwy,
+for, open, ag 0 to 8; soils A, B, C, CD, D, U 0 to 5, and 6 for impervious cover; soil columns A, B, C, CD, D 0 to 4.
+ANSWER is the number given back, 0 on every line but one; the values beside a refusal would be zeros. In this order:
+
+    runoff COLUMN RAIN NUMBER
+        the rules' three numbers (A at 55, CD at 110, D at 200), then every number of Table 3-4, row by row, columns in
+        turn: the runoff at that rain in thirty-thousandths of an inch
+
+    sheet ANSWER LIST PLACE
+        the test of the rules' sheet T with 65000 read as 35000
+
+    reading ANSWER RATE
+        three lines: 0.25 and 0.5 inches per hour, and 127 millimetres per hour
+
+    sample ANSWER LOAD
+        the load job of the rules: N, industrial impervious 1013, commercial pervious C 185, forest pervious C 89
+
+    load NUTRIENT USE SOIL ANSWER LOAD
+        every rate of Tables 3-1 and 3-2: the load of one acre (area 100), for each nutrient, land use and soil, the
+        soils 0 to 6 in turn
+
+    point PRACTICE NUTRIENT MODE RATE DEPTH PERCENT ANSWER DEPTH CREDIT REMOVED ANSWER DEPTH CREDIT VOLUME REMOVED
+        every printed percent of Tables 3-6 to 3-25 but 3-22, for each practice, nutrient, mode, rate and depth in turn,
+        rates and depths in the tables' order: the percent of the published sheet there; then the answer of crediting
+        the volume V(DEPTH) on a site of one commercial impervious acre (area 100); then the answer of sizing on that
+        site with the printed percent for the target
+"""
+
+import sys
+from fractions import Fraction
+from math import floor
+
+from document import COLUMNS, LAND_USES, NUTRIENTS, PRACTICES, Document
+
+GRID = range(201)
+SOILS = COLUMNS + ("U",)
+FULL = 100_000
+
+
+def column(soil):
+    """The table column of a soil: an unknown one is read as C."""
+    return "C" if soil == "U" else soil
+
+
+def export_rate(rates, use, soil):
+    """One of the sixteen rates; no soil for impervious cover."""
+    if soil is None:
+        return rates[LAND_USES.index(use)]
+    if use in ("for", "ag"):
+        return rates[9 if use == "for" else 10]
+    return rates[11 + COLUMNS.index(column(soil))]
+
+
+def line(points, x):
+    """The straight lines through points, at x."""
+    for (x0, y0), (x1, y1) in zip(points, points[1:]):
+        if x0 <= x <= x1:
+            return y0 + Fraction((y1 - y0) * (x - x0), x1 - x0)
+    raise ValueError(x)
+
+
+def runoff(rows, soil, rain):
+    """Runoff in thirty-thousandths of an inch."""
+    if rain < rows[0][0]:
+        return 0
+    exact = 300 * line([(row[0], row[1 + COLUMNS.index(soil)]) for row in rows], rain)
+    if exact.denominator != 1:
+        raise SystemExit("a runoff is not whole")
+    return int(exact)
+
+
+def curve(sheet, row, depth):
+    """The exact percent on one rate's curve."""
+    depths, _, percents = sheet
+    own = percents[row * len(depths):(row + 1) * len(depths)]
+    return line([(0, 0)] + list(zip(depths, own)) + [(max(GRID) + 1, own[-1])], depth)
+
+
+def percent(sheet, mode, rate, depth):
+    """The percent of a sheet at a rate that is not below its slowest, rounded down once."""
+    _, rates, _ = sheet
+    row = max(k for k, r in enumerate(rates) if r <= rate)
+    low = curve(sheet, row, depth)
+    if mode == "mix" and row + 1 < len(rates):
+        high = curve(sheet, row + 1, depth)
+        return floor(low + (high - low) * Fraction(rate - rates[row], rates[row + 1] - rates[row]))
+    return floor(low)
+
+
+def volume(rows, parts, depth):
+    """V(d) of sub-areas (land use, soil or None, area)."""
+    return 121 * sum(area * (300 * depth if soil is None else runoff(rows, column(soil), depth)) for _, soil, area in parts)
+
+
+def first_break(depths, rates, percents):
+    """The test of a sheet whose lengths are right: (0, 0, 0), or 5 with the list and the place."""
+    for number, values, most in ((1, depths, 200), (2, [] if rates == [0] else rates, 10_000)):
+        for place, value in enumerate(values):
+            if not (values[place - 1] if place else 0) < value <= most:
+                return 5, number, place
+    for place, value in enumerate(percents):
+        if not (percents[place - 1] if place % len(depths) else 0) <= value <= FULL:
+            return 5, 3, place
+    return 0, 0, 0
+
+
+def output(document):
+    rows = document.runoff_rows()
+    for soil, rain in (("A", 55), ("CD", 110), ("D", 200)):
+        yield "runoff", COLUMNS.index(soil), rain, runoff(rows, soil, rain)
+    for row in rows:
+        for place, soil in enumerate(COLUMNS):
+            yield "runoff", place, row[0], runoff(rows, soil, row[0])
+    yield ("sheet", *first_break([20, 60, 100], [25, 75], [20000, 50000, 70000, 40000, 35000, 80000]))
+    for reading, millimetres in ((Fraction(1, 4), False), (Fraction(1, 2), False), (Fraction(127), True)):
+        yield "reading", 0, floor(100 * reading / (Fraction(254, 10) if millimetres else 1))
+
+    rates = {n: document.export_rates(n) for n in NUTRIENTS}
+    sample = [("ind", None, 1013), ("com", "C", 185), ("for", "C", 89)]
+    yield "sample", 0, sum(area * export_rate(rates["N"], use, soil) for use, soil, area in sample)
+    for n, nutrient in enumerate(NUTRIENTS):
+        for u, use in enumerate(LAND_USES):
+            for s, soil in enumerate(SOILS + (None,)):
+                yield "load", n, u, s, 0, 100 * export_rate(rates[nutrient], use, soil)
+
+    acre = [("com", None, 100)]
+    for practice in range(len(PRACTICES)):
+        for n, nutrient in enumerate(NUTRIENTS):
+            sheet = document.sheet(practice, nutrient)
+            depths, own_rates, percents = sheet
+            if first_break(*sheet) != (0, 0, 0):
+                raise SystemExit(f"the sheet of {PRACTICES[practice][0]} breaks a rule")
+            load = sum(area * export_rate(rates[nutrient], use, soil) for use, soil, area in acre)
+            for m, mode in enumerate(("step", "mix")):
+                for row, rate in enumerate(own_rates):
+                    for place, depth in enumerate(depths):
+                        printed = percents[row * len(depths) + place]
+                        here = percent(sheet, mode, rate, depth)
+                        if here != printed:
+                            raise SystemExit("the rules and a printed percent differ")
+                        lent = volume(rows, acre, depth)
+                        reached = max(d for d in GRID if volume(rows, acre, d) <= lent)
+                        credit = percent(sheet, mode, rate, reached)
+                        least = min(d for d in GRID if percent(sheet, mode, rate, d) >= printed)
+                        sized = percent(sheet, mode, rate, least)
+                        yield (
+                            "point", practice, n, m, rate, depth, here,
+                            0, reached, credit, load * credit // FULL,
+                            0, least, sized, volume(rows, acre, least), load * sized // FULL,
+                        )
+
+
+if __name__ == "__main__":
+    if len(sys.argv) != 2:
+        raise SystemExit(__doc__)
+    for words in output(Document(sys.argv[1])):
+        print(*words)
