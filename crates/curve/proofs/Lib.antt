@@ -5,3 +5,5 @@ pub mod Choices
 pub mod Parts
 pub mod Rising
 pub mod Answering
+pub mod Faster
+pub mod Promises

@@ -1,0 +1,42 @@
+-- The promises hold.
+-- Assumes nothing.
+use Prim.Native.Nat.{ℕ, _≤_, _<_}
+use mathlib.Core.List.{List}
+use mathlib.Core.Path.{_≡_, refl, sym, _∙_}
+use native.Mathlib.Nat.{le-trans}
+use native.Mathlib.Omega.{arith}
+use Rattle.laws.proofs.Quotient.{floor-le}
+use Rattle.sheet.specs.Rules.{Rules}
+use Rattle.sheet.proofs.Rules.{fine-rules}
+use Rattle.curve.specs.declared.Mode.{Mode}
+use Rattle.curve.specs.Curve.{held, segment, curvesOf, exactOf, percentOf}
+use Rattle.curve.specs.Ready.{Rated, Ready}
+use Rattle.curve.specs.Promises.{Granted, NeverFallsWithDepth, AtMostAll, NeverFallsWithRate}
+use Rattle.curve.proofs.Answering.{rate-rated}
+use Rattle.curve.proofs.Choices.{neighbours}
+use Rattle.curve.proofs.Faster.{exact-faster}
+use Rattle.curve.proofs.Parts.{in-segment}
+use Rattle.curve.proofs.Rising.{under-some, percent-rises, percent-most}
+
+module _ {ds rs ps : List ℕ} {r : ℕ} (g : Granted ds rs ps r) where
+  -- A granted sheet keeps the rules, and a granted rate is reached by it.
+  pub granted-rules : Rules ds rs ps
+  granted-rules = fine-rules ds rs ps (g .fine)
+
+  pub granted-rated : Rated rs r
+  granted-rated = rate-rated rs refl (granted-rules .some-rates) (g .taken) (g .slowest)
+
+  pub granted-ready : (mode : Mode) → Ready ds rs ps (curvesOf rs mode r)
+  granted-ready mode = record { rules = granted-rules; curves = neighbours mode granted-rules granted-rated }
+
+pub never-falls-with-depth : NeverFallsWithDepth
+never-falls-with-depth ds rs ps mode r d e g h = percent-rises (granted-ready g mode) d e h
+
+pub at-most-all : AtMostAll
+at-most-all ds rs ps mode r d g = percent-most (granted-ready g mode) d
+
+pub never-falls-with-rate : NeverFallsWithRate
+never-falls-with-rate ds rs ps faster mode r q d g f h =
+    floor-le (exactOf ds rs ps mode r d .over) (exactOf ds rs ps mode r d .under) (exactOf ds rs ps mode q d .over) (exactOf ds rs ps mode q d .under)
+    (under-some (granted-ready g mode) d) (under-some (granted-ready f mode) d)
+    (exact-faster (in-segment d (granted-rules g) refl refl) faster mode (granted-rated g) (granted-rated f) h)
