@@ -168,6 +168,7 @@ fn with_line_harmed(random: &mut Random, text: &[u8], kind: u64) -> Vec<u8> {
 }
 
 /// A sheet that owns its lists.
+#[derive(Clone, Debug, PartialEq, Eq)]
 pub struct OwnSheet {
     pub depths: Vec<u64>,
     pub rates: Vec<u64>,

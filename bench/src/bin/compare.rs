@@ -57,7 +57,9 @@ fn answered(sheet: Option<Sheet>, job: &[u8], ours: bool, text: &mut [u8]) -> us
     }
 }
 
-fn compare_job(seen: &mut Seen, random: &mut Random, job: Vec<u8>, sheet: Option<Sheet>) {
+fn compare_job(seen: &mut Seen, random: &mut Random, job: Vec<u8>, lent: Option<&OwnSheet>) {
+    let sheet = lent.map(OwnSheet::lend);
+    let (copy, sheet_copy) = (job.clone(), lent.cloned());
     let mut whole = [0; 256];
     let length = answered(sheet, &job, false, &mut whole);
     seen.jobs[number_of(&whole[..length])] += 1;
@@ -71,17 +73,17 @@ fn compare_job(seen: &mut Seen, random: &mut Random, job: Vec<u8>, sheet: Option
     };
     let before: Vec<u8> = (0..room + 2 * MARGIN).map(|_| random.next() as u8).collect();
     let (mut ours, mut theirs) = (before.clone(), before);
-    let copy = job.clone();
     let our_length = answered(sheet, &job, true, &mut ours[MARGIN..MARGIN + room]);
     let their_length = answered(sheet, &job, false, &mut theirs[MARGIN..MARGIN + room]);
     seen.too_short += (their_length == 0) as u64;
     let (our_part, their_part) = (linked::fault(&job), reference::fault(&job));
-    let same = our_length == their_length && ours == theirs && our_part == their_part && job == copy;
-    seen.note(same, || {
+    let kept = job == copy && lent == sheet_copy.as_ref();
+    let same = our_length == their_length && ours == theirs && our_part == their_part;
+    seen.note(same && kept, || {
         format!(
             "job \"{}\" with {:?} and room {}: {} \"{}\" {:?}, and the Rust code {} \"{}\" {:?}",
             shown(&copy),
-            sheet,
+            sheet_copy,
             room,
             our_length,
             shown(&ours[MARGIN..MARGIN + our_length.min(room)]),
@@ -95,14 +97,13 @@ fn compare_job(seen: &mut Seen, random: &mut Random, job: Vec<u8>, sheet: Option
 
 fn compare_sheet(seen: &mut Seen, random: &mut Random, own: &OwnSheet) {
     let sheet = own.lend();
-    let copies = (own.depths.clone(), own.rates.clone(), own.percents.clone());
+    let copy = own.clone();
     let (mix, rate, depth) = (random.one_in(2), generate::rate_for(random, sheet), generate::depth(random));
     let ours = (linked::sheet(sheet), linked::percent(sheet, mix, rate, depth));
     let theirs = (reference::sheet(sheet), reference::percent(sheet, mix, rate, depth));
     seen.percents[theirs.1.answer as usize] += 1;
-    let kept = own.depths == copies.0 && own.rates == copies.1 && own.percents == copies.2;
-    seen.note(ours == theirs && kept, || {
-        format!("{:?} mix {} rate {} depth {}: {:?}, and the Rust code {:?}", sheet, mix, rate, depth, ours, theirs)
+    seen.note(ours == theirs && *own == copy, || {
+        format!("{:?} mix {} rate {} depth {}: {:?}, and the Rust code {:?}", copy, mix, rate, depth, ours, theirs)
     });
 }
 
@@ -134,7 +135,7 @@ fn compare_one(seen: &mut Seen, random: &mut Random) {
         11..=14 => {
             let own = if random.one_in(8) { generate::broken_sheet(random) } else { generate::sheet(random) };
             let job = generate::job_for(random, own.lend());
-            compare_job(seen, random, job, Some(own.lend()))
+            compare_job(seen, random, job, Some(&own))
         }
         15 | 16 => {
             let own = generate::sheet(random);
