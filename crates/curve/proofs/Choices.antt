@@ -11,6 +11,7 @@ use native.Mathlib.Omega.{arith}
 use lib.Dec.{leb, ltb, eqb, leb·suc-suc}
 use lib.ListN.{length, getD}
 use borrow.Author.Tests.{leb-true, leb-false, le-leb, lt-ltb, le-ltb, eqb-true}
+use Rattle.laws.proofs.And.{and-left}
 use Rattle.laws.specs.First.{first}
 use Rattle.laws.proofs.First.{first-le, first-before, first-fails, first-same, first-mono}
 use Rattle.laws.proofs.Order.{lt-or-le, passes-or-fails}
@@ -87,11 +88,7 @@ module _ {rs : List ℕ} {r : ℕ} (p : Rated rs r) where
 -- A sheet without rates has one.
 single : (rs : List ℕ) → withoutRates rs ≡ true → length rs ≡ 1
 unfolding withoutRates
-single rs e = eqb-true (length rs) 1 (left (eqb (length rs) 1) (eqb (getD rs 0 0) 0) e)
-  where
-    left : (a b : Bool) → (a && b) ≡ true → a ≡ true
-    left true b e = refl
-    left false b e = e
+single rs e = eqb-true (length rs) 1 (and-left (eqb (length rs) 1) (eqb (getD rs 0 0) 0) e)
 
 -- Neighbouring rates rise, and stay in range.
 module _ {ds rs ps : List ℕ} (s : Rules ds rs ps) (k : ℕ) (h : k + 1 < length rs) where

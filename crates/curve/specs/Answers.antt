@@ -2,10 +2,11 @@
 -- Assumes nothing.
 use Prim.Native.Nat.{ℕ}
 use mathlib.Core.Bool.{cond}
-use mathlib.Core.List.{List}
+use mathlib.Core.List.{List, [], _∷_}
 use lib.Dec.{leb, ltb}
 use lib.ListN.{getD}
 use Rattle.laws.specs.First.{first}
+use Rattle.laws.specs.Turn.{inTurn}
 use Rattle.refusal.specs.declared.Refusal.{Refusal}
 use Rattle.refusal.specs.declared.Refusal.the-variants.{UnfitSheet, RateOutOfRange, RateBelowSheet, AmountOutOfRange, TargetUnreachable}
 use Rattle.refusal.specs.Refusal.{numberOf, granted}
@@ -32,9 +33,8 @@ fastestTaken rs = cond (withoutRates rs) 0 mostRate
 -- 6, then 7, then the curves of the site rate
 unfoldable pub rated : List ℕ → Mode → ℕ → Admission
 rated rs mode r =
-    cond (leb r (fastestTaken rs))
-    (cond (leb (getD rs 0 0) r) (admission.Admitted (curvesOf rs mode r)) (admission.Refused RateBelowSheet))
-    (admission.Refused RateOutOfRange)
+    inTurn admission.Refused (admission.Admitted (curvesOf rs mode r))
+    ((leb r (fastestTaken rs), RateOutOfRange) ∷ (leb (getD rs 0 0) r, RateBelowSheet) ∷ [])
 
 -- 5 first
 abbrev pub judgedFirst : Verdict → Admission → Admission
@@ -46,7 +46,8 @@ admissionOf ds rs ps mode r = judgedFirst (verdictOf ds rs ps) (rated rs mode r)
 
 -- an admitted sheet's exact percent, refused 9 at a depth above 200
 abbrev pub exactFrom : List ℕ → List ℕ → ℕ → Admission → ExactAnswer
-exactFrom ds ps d (admission.Admitted c) = cond (leb d highestDepth) (exact.Granted (exactAt ds ps c d)) (exact.Refused AmountOutOfRange)
+exactFrom ds ps d (admission.Admitted c) =
+    inTurn exact.Refused (exact.Granted (exactAt ds ps c d)) ((leb d highestDepth, AmountOutOfRange) ∷ [])
 exactFrom ds ps d (admission.BadSheet list place) = exact.BadSheet list place
 exactFrom ds ps d (admission.Refused r) = exact.Refused r
 

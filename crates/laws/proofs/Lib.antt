@@ -1,4 +1,5 @@
 pub mod Order
+pub mod And
 pub mod First
 pub mod Walk
 pub mod Bisection

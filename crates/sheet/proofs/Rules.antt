@@ -10,6 +10,7 @@ use native.Mathlib.Omega.{arith}
 use lib.Dec.{leb, ltb, eqb}
 use lib.ListN.{length, getD}
 use borrow.Author.Tests.{leb-true, le-leb, ltb-true, ltb-false, le-ltb, eqb-true, eq-eqb}
+use Rattle.laws.proofs.And.{and-left, and-right}
 use Rattle.laws.specs.First.{first}
 use Rattle.laws.proofs.First.{first-le, first-all, first-is}
 use Rattle.laws.proofs.Order.{passes-or-fails, never-both}
@@ -18,17 +19,6 @@ use Rattle.sheet.specs.declared.Verdict.{Verdict}
 use Rattle.sheet.specs.declared.Verdict.the-variants.{Fine, Unfit}
 use Rattle.sheet.specs.Sheet.{mostDepths, mostRates, previous, inStep, offending, offendingDepth, offendingRate, offendingPercent, lengthsFit, withoutRates, judged, verdictOf}
 use Rattle.sheet.specs.Rules.{InStep, Rules}
-
-and-left : (a b : Bool) → (a && b) ≡ true → a ≡ true
-and-left true b e = refl
-and-left false b e = e
-
-and-right : (a b : Bool) → (a && b) ≡ true → b ≡ true
-and-right true b e = e
-and-right false b e = cc
-
-both : {a b : Bool} → a ≡ true → b ≡ true → (a && b) ≡ true
-both p q = rw (p, q)
 
 -- No unfit verdict is a fine one.
 unfit-fine : {list place : ℕ} → Unfit list place ≡ Fine → ⊥
