@@ -1,0 +1,3 @@
+pub mod Volume
+pub mod Areas
+pub mod Answers

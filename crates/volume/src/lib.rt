@@ -1,0 +1,110 @@
+// 01, "Volume of a depth": V at a depth, and the depth of a volume.
+ghost use mathlib.Core.Path.{_≡_};
+ghost use Prim.Native.Nat.{_+_, _*_, _≤_};
+ghost use Rattle.laws.specs.First.{first};
+ghost use Rattle.units.specs.Limits.{mostArea, highestDepth, gridDepths};
+ghost use Rattle.runoff.specs.Runoff.{runoffOf, runoffSheet};
+ghost use Rattle.site.specs.Parts.{partsOf};
+ghost use Rattle.site.specs.Judging.{Fine};
+ghost use Rattle.volume.specs.Areas.{areaPlace, areaAt, areasOf, withinLimit, soilsRunoff, volumeFrom, Six, OnSheet};
+ghost use Rattle.volume.specs.Answers.{volumeAnswer, depthAnswer, volumeOn, depthOn};
+use refusal::Refusal;
+use runoff::RunoffAnswer;
+use site::AreaAnswer;
+use site::Cover;
+use site::Site;
+use site::SubArea;
+use units::Area;
+use units::Column;
+use units::Depth;
+use units::DepthAnswer;
+use units::Volume;
+
+pub enum VolumeAnswer {
+    Granted(Volume),
+    Refused(Refusal),
+}
+
+// The impervious area, then the pervious area of each soil column.
+pub struct Areas {
+    pub of: [Area; 6],
+}
+
+// The place of a sub-area's area among the six.
+fn area_place(part: SubArea) -> usize
+    ensures { λ r. ⌜ (r ≡ areaPlace part) × (r ≤ 5) ⌝ }
+{
+    let cover = part.cover;
+    let soil = part.soil;
+    match cover {
+        Cover::Imp => 0,
+        Cover::Per => units::place(site::runoff_column(soil)) + 1,
+    }
+}
+
+// The six areas of a site that is judged fine.
+fn gathered(site: Site) -> Areas
+    requires { ⌜ Fine site ⌝ }
+    ensures { λ r. ⌜ r .of ≡ areasOf (partsOf site) ⌝ }
+{
+    let count = site.count;
+    let mut of = [Area(0); 6];
+    let mut i = 0;
+    while i < count {
+        let part = site.parts[i];
+        let at = area_place(part);
+        let area = part.area;
+        let old = of[at];
+        of[at] = Area(old.0 + area.0);
+        i += 1;
+    }
+    Areas { of }
+}
+
+// 300 × d × impervious area.
+fn from_impervious(area: Area, d: u64) -> u64
+    requires { ⌜ (area .0 ≤ mostArea) × (d ≤ highestDepth) ⌝ }
+    ensures { λ r. ⌜ (r ≡ 300 * d * area .0) × (r ≤ 60_000 * area .0) ⌝ }
+{
+    300 * d * area.0
+}
+
+// Area × runoff of one soil column.
+fn from_soil(sheet: &[u16; 1005], column: Column, area: Area, d: u64) -> u64
+    requires { ⌜ OnSheet (now sheet) d ⌝ }
+    requires { ⌜ area .0 ≤ mostArea ⌝ }
+    ensures { λ r. ⌜ (r ≡ area .0 * runoffOf column d) × (r ≤ 60_000 * area .0) × (r ≤ 60_000 * mostArea) ⌝ }
+{
+    let found = runoff::entry(sheet, column, Depth(d));
+    match found {
+        RunoffAnswer::Granted(runoff) => area.0 * runoff.0,
+        RunoffAnswer::Refused(_) => 0,
+    }
+}
+
+// The sum over the soil columns.
+fn from_soils(sheet: &[u16; 1005], areas: Areas, d: u64) -> u64
+    requires { ⌜ OnSheet (now sheet) d ⌝ }
+    requires { ⌜ Six (areas .of) ⌝ }
+    ensures { λ r. ⌜ (r ≡ soilsRunoff (areas .of) d) × (r + 60_000 * areaAt (areas .of) 0 ≤ 60_000 * mostArea) ⌝ }
+{
+    let of = areas.of;
+    let a = from_soil(sheet, Column::A, of[1], d);
+    let b = from_soil(sheet, Column::B, of[2], d);
+    let c = from_soil(sheet, Column::C, of[3], d);
+    let cd = from_soil(sheet, Column::CD, of[4], d);
+    let last = from_soil(sheet, Column::D, of[5], d);
+    a + b + c + cd + last
+}
+
+// V at a depth of the grid.
+fn volume_at(sheet: &[u16; 1005], areas: Areas, d: u64) -> u64
+    requires { ⌜ OnSheet (now sheet) d ⌝ }
+    requires { ⌜ Six (areas .of) ⌝ }
+    ensures { λ r. ⌜ r ≡ volumeFrom (areas .of) d ⌝ }
+{
+    let of = areas.of;
+    let impervious = from_impervious(of[0], d);
+    let pervious = from_soils(sheet, areas, d);
+    121 * (impervious + pervious)
+}
