@@ -59,7 +59,7 @@ module _ (sheet : List ℕ) (c : Column) (d : ℕ) (found : RunoffAnswer) (on : 
   told : found ≡ Granted (record { 0 = runoffOf c d })
   told =
       let g : entryOf sheet c (record { 0 = d }) ≡ Granted (record { 0 = runoffOf c d }) =
-        simp (le-leb d highestDepth (on .grid), on .constant, sheet-at c d (on .grid)) in
+      simp (le-leb d highestDepth (on .grid), on .constant, sheet-at c d (on .grid)) in
       e ∙ g
 
   -- On the constant sheet the look-up at a grid depth finds the runoff.

@@ -23,7 +23,7 @@ use Rattle.site.specs.Judging.{judged, afterJudging}
 use Rattle.volume.specs.declared.VolumeAnswer.{VolumeAnswer}
 use Rattle.volume.specs.declared.VolumeAnswer.the-variants.{Granted, Refused}
 use Rattle.volume.specs.Volume.{volumeOf, depthOf}
-use Rattle.volume.specs.Areas.{withinLimit, volumeFrom}
+use Rattle.volume.specs.Areas.{withinLimit, volumeFrom, notAbove}
 
 -- V(200) is within 10^13
 abbrev pub notPast : ℕ → Bool
@@ -58,7 +58,7 @@ volumeOn xs d =
 
 unfoldable pub depthOn : List Area → Volume → DepthAnswer
 depthOn xs v =
-    inTurn depth.Refused (depth.Granted (record { 0 = first (λ d. leb (volumeFrom xs d) (v .0)) gridDepths - 1 }))
+    inTurn depth.Refused (depth.Granted (record { 0 = first (notAbove xs (v .0)) gridDepths - 1 }))
     ((withinLimit xs, TotalAreaPassed)
     ∷ (leb (v .0) largest, AmountOutOfRange)
     ∷ (notPast (volumeFrom xs highestDepth), PastLargest)

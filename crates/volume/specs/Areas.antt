@@ -66,6 +66,10 @@ soilsRunoff xs d =
 unfoldable pub volumeFrom : List Area → ℕ → ℕ
 volumeFrom xs d = 121 * (300 * d * areaAt xs 0 + soilsRunoff xs d)
 
+-- V at a depth is not above the volume
+abbrev pub notAbove : List Area → ℕ → ℕ → Bool
+notAbove xs v d = leb (volumeFrom xs d) v
+
 -- What is known of the six areas of a site.
 pub record Six (xs : List Area) : Type 0 where
   pub six : length xs ≡ 6

@@ -6,7 +6,7 @@ ghost use Rattle.units.specs.Limits.{mostArea, highestDepth, gridDepths};
 ghost use Rattle.runoff.specs.Runoff.{runoffOf, runoffSheet};
 ghost use Rattle.site.specs.Parts.{partsOf};
 ghost use Rattle.site.specs.Judging.{Fine};
-ghost use Rattle.volume.specs.Areas.{areaPlace, areaAt, areasOf, withinLimit, soilsRunoff, volumeFrom, Six, OnSheet};
+ghost use Rattle.volume.specs.Areas.{areaPlace, areaAt, areasOf, withinLimit, soilsRunoff, volumeFrom, notAbove, Six, OnSheet};
 ghost use Rattle.volume.specs.Answers.{volumeAnswer, depthAnswer, volumeOn, depthOn};
 use refusal::Refusal;
 use runoff::RunoffAnswer;
@@ -107,4 +107,45 @@ fn volume_at(sheet: &[u16; 1005], areas: Areas, d: u64) -> u64
     let impervious = from_impervious(of[0], d);
     let pervious = from_soils(sheet, areas, d);
     121 * (impervious + pervious)
+}
+
+// The first grid depth whose V is above the volume, or 201, with at most 8 evaluations of V.
+fn first_above(sheet: &[u16; 1005], areas: Areas, volume: u64) -> u64
+    requires { ⌜ now sheet ≡ runoffSheet ⌝ }
+    requires { ⌜ Six (areas .of) ⌝ }
+    ensures { λ r. ⌜ r ≡ first (notAbove (areas .of) volume) gridDepths ⌝ }
+{
+    let mut low = Depth::LOWEST;
+    let mut high = Depth::HIGHEST + 1;
+    let mut trials: u64 = 8;
+    while 0 < trials {
+        if high <= low {
+            return low;
+        }
+        let middle = low + (high - low) / 2;
+        trials -= 1;
+        if volume_at(sheet, areas, middle) <= volume {
+            low = middle + 1;
+        } else {
+            high = middle;
+        }
+    }
+    low
+}
+
+// The six areas are those of a site: their total is within the limit.
+fn within_limit(areas: Areas) -> bool
+    ensures { λ r. ⌜ r ≡ withinLimit (areas .of) ⌝ }
+{
+    let mut total: u64 = 0;
+    let mut i = 0;
+    while i < 6 {
+        let area = areas.of[i];
+        if units::MOST_AREA - total < area.0 {
+            return false;
+        }
+        total += area.0;
+        i += 1;
+    }
+    true
 }
