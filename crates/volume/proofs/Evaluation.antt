@@ -7,13 +7,14 @@ use mir.Syntax.{w64}
 use mir.Val.{Fits}
 use native.Mathlib.Nat.{le-refl, le-trans, lt-of-le-of-lt, mul-le-mul, mul-le-mul-left}
 use native.Mathlib.Omega.{arith}
-use lib.Dec.{lit<}
+use lib.Dec.{lit<, lit≤}
 use lib.ListN.{getD}
 use borrow.Author.Tests.{le-leb}
 use Rattle.laws.specs.Sum.{sumOf}
 use Rattle.refusal.specs.declared.Refusal.{Refusal}
 use Rattle.units.specs.declared.Area.{Area}
 use Rattle.units.specs.declared.Column.{Column}
+use Rattle.units.specs.declared.Column.the-variants.{A, B, C, CD, D}
 use Rattle.units.specs.Limits.{mostArea, highestDepth}
 use Rattle.runoff.specs.declared.RunoffAnswer.{RunoffAnswer}
 use Rattle.runoff.specs.declared.RunoffAnswer.the-variants.{Granted, Refused}
@@ -103,3 +104,15 @@ soils-most xs a b c d e s h i j k l =
 pub volume-is : (xs : List Area) (d i p : ℕ) → i ≡ 300 * d * areaAt xs 0 → p ≡ soilsRunoff xs d → 121 * (i + p) ≡ volumeFrom xs d
 unfolding volumeFrom
 volume-is xs d i p e f = rw (e, f)
+
+-- V(200) from six areas is at most that of the largest site, all of it impervious.
+pub from-most : (xs : List Area) → Six xs → volumeFrom xs highestDepth ≤ 7_260_000_000_000
+unfolding volumeFrom
+from-most xs s =
+    let m = all-small xs s in
+    let a = mul-le-mul-left (areaAt xs 1) (runoff-most A highestDepth (lit≤ tt)) in
+    let b = mul-le-mul-left (areaAt xs 2) (runoff-most B highestDepth (lit≤ tt)) in
+    let c = mul-le-mul-left (areaAt xs 3) (runoff-most C highestDepth (lit≤ tt)) in
+    let cd = mul-le-mul-left (areaAt xs 4) (runoff-most CD highestDepth (lit≤ tt)) in
+    let d = mul-le-mul-left (areaAt xs 5) (runoff-most D highestDepth (lit≤ tt)) in
+    omega arith

@@ -2,5 +2,6 @@ pub mod Gathering
 pub mod Products
 pub mod Evaluation
 pub mod Rising
-pub mod Depth
+pub mod Reaching
 pub mod Limit
+pub mod Answered

@@ -1,13 +1,11 @@
 -- V never falls with depth, rises strictly where there is impervious area, is 0 at depth 0, and stays within the limit.
 -- Assumes nothing.
 use Prim.Native.Nat.{ℕ, suc, _+_, _*_, _^_, _≤_, _<_}
-
 use mathlib.Core.List.{List, [], _∷_}
 use mathlib.Core.Path.{_≡_, refl, sym, _∙_, ap}
 use native.Mathlib.Nat.{le-refl, mul-le-mul-left, mul-le-mul-right}
 use native.Mathlib.Omega.{arith}
 use lib.Dec.{lit≤}
-
 use Rattle.laws.specs.Sum.{sumOf}
 use Rattle.laws.proofs.Sum.{sum-mono}
 use Rattle.units.specs.declared.Area.{Area}
@@ -50,7 +48,8 @@ volume-strict ps d e i h k =
     let q : 300 * suc d * imperviousArea ps ≤ 300 * e * imperviousArea ps = mul-le-mul-right (imperviousArea ps) (mul-le-mul-left 300 h) in
     omega arith
 
-none-at-zero : (c : Column) → runoffOf c 0 ≡ 0
+-- No soil sheds anything at depth 0.
+pub none-at-zero : (c : Column) → runoffOf c 0 ≡ 0
 unfolding runoffOf byRows fromRow
 none-at-zero A = refl
 none-at-zero B = refl

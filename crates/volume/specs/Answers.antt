@@ -20,10 +20,12 @@ use Rattle.site.specs.declared.AreaAnswer.{AreaAnswer}
 use Rattle.site.specs.declared.AreaAnswer.the-variants as area
 use Rattle.site.specs.Parts.{partsOf}
 use Rattle.site.specs.Judging.{judged, afterJudging}
+use Rattle.volume.specs.declared.Areas.{Areas}
+use Rattle.volume.specs.declared.Gathered.{Gathered}
 use Rattle.volume.specs.declared.VolumeAnswer.{VolumeAnswer}
 use Rattle.volume.specs.declared.VolumeAnswer.the-variants.{Granted, Refused}
 use Rattle.volume.specs.Volume.{volumeOf, depthOf}
-use Rattle.volume.specs.Areas.{withinLimit, volumeFrom, notAbove}
+use Rattle.volume.specs.Areas.{noAreas, areasOf, withinLimit, volumeFrom, notAbove}
 
 -- V(200) is within 10^13
 abbrev pub notPast : ℕ → Bool
@@ -45,6 +47,13 @@ depthAnswer s v =
     (λ total.
     inTurn depth.Refused (depth.Granted (record { 0 = depthOf (partsOf s) (v .0) }))
     ((leb (v .0) largest, AmountOutOfRange) ∷ (notPast (volumeOf (partsOf s) highestDepth), PastLargest) ∷ []))
+    (judged s)
+
+-- the six areas of a site beside its total area; a refused record has none
+unfoldable pub gatheredAnswer : Site → Gathered
+gatheredAnswer s =
+    afterJudging (λ why. record { answer = area.Refused why; areas = record { of = noAreas } })
+    (λ total. record { answer = area.Granted (record { 0 = total }); areas = record { of = areasOf (partsOf s) } })
     (judged s)
 
 -- the same on six areas, refused 3 where their total passes the limit

@@ -42,9 +42,13 @@ unfoldable pub gatheredFrom : List Area → List SubArea → List Area
 gatheredFrom xs [] = xs
 gatheredFrom xs (p ∷ ps) = gatheredFrom (withPart xs p) ps
 
+-- six areas of nothing
+abbrev pub noAreas : List Area
+noAreas = replicate 6 noArea
+
 -- the six areas of a list of sub-areas
 abbrev pub areasOf : List SubArea → List Area
-areasOf ps = gatheredFrom (replicate 6 noArea) ps
+areasOf ps = gatheredFrom noAreas ps
 
 abbrev pub totalOf : List Area → ℕ
 totalOf = sumOf (λ x. x .0)

@@ -1,5 +1,6 @@
 // 01, "Volume of a depth": V at a depth, and the depth of a volume.
 ghost use mathlib.Core.Path.{_≡_};
+ghost use lib.ListN.{length};
 ghost use Prim.Native.Nat.{_+_, _*_, _≤_};
 ghost use Rattle.laws.specs.First.{first};
 ghost use Rattle.units.specs.Limits.{mostArea, highestDepth, gridDepths};
@@ -7,7 +8,7 @@ ghost use Rattle.runoff.specs.Runoff.{runoffOf, runoffSheet};
 ghost use Rattle.site.specs.Parts.{partsOf};
 ghost use Rattle.site.specs.Judging.{Fine};
 ghost use Rattle.volume.specs.Areas.{areaPlace, areaAt, areasOf, withinLimit, soilsRunoff, volumeFrom, notAbove, Six, OnSheet};
-ghost use Rattle.volume.specs.Answers.{volumeAnswer, depthAnswer, volumeOn, depthOn};
+ghost use Rattle.volume.specs.Answers.{notPast, gatheredAnswer, volumeAnswer, depthAnswer, volumeOn, depthOn};
 use refusal::Refusal;
 use runoff::RunoffAnswer;
 use site::AreaAnswer;
@@ -43,7 +44,7 @@ fn area_place(part: SubArea) -> usize
 }
 
 // The six areas of a site that is judged fine.
-fn gathered(site: Site) -> Areas
+fn six_areas(site: Site) -> Areas
     requires { ⌜ Fine site ⌝ }
     ensures { λ r. ⌜ r .of ≡ areasOf (partsOf site) ⌝ }
 {
@@ -135,7 +136,7 @@ fn first_above(sheet: &[u16; 1005], areas: Areas, volume: u64) -> u64
 
 // The six areas are those of a site: their total is within the limit.
 fn within_limit(areas: Areas) -> bool
-    ensures { λ r. ⌜ r ≡ withinLimit (areas .of) ⌝ }
+    ensures { λ r. ⌜ (r ≡ withinLimit (areas .of)) × (length (areas .of) ≡ 6) ⌝ }
 {
     let mut total: u64 = 0;
     let mut i = 0;
@@ -148,4 +149,104 @@ fn within_limit(areas: Areas) -> bool
         i += 1;
     }
     true
+}
+
+// V(200) of the largest site, all of it impervious: no site has a larger V(200).
+const FULLEST: u64 = 7_260_000_000_000;
+
+// Refusal 15 does not arise: V(200) is within the largest volume. The six areas' own V(200) is
+// worked out only where the limits leave a doubt.
+fn within_largest(sheet: &[u16; 1005], areas: Areas) -> bool
+    requires { ⌜ now sheet ≡ runoffSheet ⌝ }
+    requires { ⌜ Six (areas .of) ⌝ }
+    ensures { λ r. ⌜ r ≡ notPast (volumeFrom (areas .of) highestDepth) ⌝ }
+{
+    if FULLEST <= units::LARGEST {
+        return true;
+    }
+    volume_at(sheet, areas, Depth::HIGHEST) <= units::LARGEST
+}
+
+// V at a depth, from six areas.
+pub fn volume_of(areas: Areas, depth: Depth) -> VolumeAnswer
+    ensures { λ r. ⌜ r ≡ volumeOn (areas .of) depth ⌝ }
+{
+    if !within_limit(areas) {
+        return VolumeAnswer::Refused(Refusal::TotalAreaPassed);
+    }
+    let d = depth.0;
+    if Depth::HIGHEST < d {
+        return VolumeAnswer::Refused(Refusal::AmountOutOfRange);
+    }
+    let sheet = runoff::sheet();
+    if !within_largest(&sheet, areas) {
+        return VolumeAnswer::Refused(Refusal::PastLargest);
+    }
+    VolumeAnswer::Granted(Volume(volume_at(&sheet, areas, d)))
+}
+
+// The depth of a volume, from six areas.
+pub fn depth_of(areas: Areas, volume: Volume) -> DepthAnswer
+    ensures { λ r. ⌜ r ≡ depthOn (areas .of) volume ⌝ }
+{
+    if !within_limit(areas) {
+        return DepthAnswer::Refused(Refusal::TotalAreaPassed);
+    }
+    let v = volume.0;
+    if units::LARGEST < v {
+        return DepthAnswer::Refused(Refusal::AmountOutOfRange);
+    }
+    let sheet = runoff::sheet();
+    if !within_largest(&sheet, areas) {
+        return DepthAnswer::Refused(Refusal::PastLargest);
+    }
+    DepthAnswer::Granted(Depth(first_above(&sheet, areas, v) - 1))
+}
+
+// The six areas of a site beside its total area, or beside the refusal of its record; then they are zero.
+pub struct Gathered {
+    pub answer: AreaAnswer,
+    pub areas: Areas,
+}
+
+pub fn gather(site: Site) -> Gathered
+    ensures { λ r. ⌜ r ≡ gatheredAnswer site ⌝ }
+{
+    let found = site::judge(site);
+    match found {
+        AreaAnswer::Granted(total) => Gathered {
+            answer: AreaAnswer::Granted(total),
+            areas: six_areas(site),
+        },
+        AreaAnswer::Refused(why) => Gathered {
+            answer: AreaAnswer::Refused(why),
+            areas: Areas { of: [Area(0); 6] },
+        },
+    }
+}
+
+// V of a site at a depth.
+pub fn volume(site: Site, depth: Depth) -> VolumeAnswer
+    ensures { λ r. ⌜ r ≡ volumeAnswer site depth ⌝ }
+{
+    let found = gather(site);
+    let answer = found.answer;
+    let areas = found.areas;
+    match answer {
+        AreaAnswer::Granted(_) => volume_of(areas, depth),
+        AreaAnswer::Refused(why) => VolumeAnswer::Refused(why),
+    }
+}
+
+// The depth of a volume on a site.
+pub fn depth(site: Site, volume: Volume) -> DepthAnswer
+    ensures { λ r. ⌜ r ≡ depthAnswer site volume ⌝ }
+{
+    let found = gather(site);
+    let answer = found.answer;
+    let areas = found.areas;
+    match answer {
+        AreaAnswer::Granted(_) => depth_of(areas, volume),
+        AreaAnswer::Refused(why) => DepthAnswer::Refused(why),
+    }
 }

@@ -4,7 +4,7 @@ use borrow.Author.Needs.{needs}
 use Rattle.laws.proofs.Bisection.{Halving, halving-done, halving-out}
 use Rattle.units.specs.Limits.{gridDepths}
 use Rattle.volume.specs.Areas.{notAbove}
-use Rattle.volume.proofs.Depth.{above-starts, above-up, above-down}
+use Rattle.volume.proofs.Reaching.{above-starts, above-up, above-down}
 use Rattle.volume.proofs.first_above.Statement.{statement}
 use Rattle.volume.proofs.first_above.Tie as tie
 

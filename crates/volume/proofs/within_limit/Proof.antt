@@ -29,7 +29,7 @@ sub-if1 : tie.Need-sub-if1 Inv-loop μ-loop
 sub-if1 c = search needs
 
 returns : tie.Need-returns Inv-loop μ-loop
-returns c = search (total-passed, needs)
+returns c = (search (total-passed, needs), search needs)
 
 add-total : tie.Need-add-total Inv-loop μ-loop
 add-total c = search (total-fits, needs)
@@ -44,7 +44,7 @@ loop-again : tie.Need-loop-again Inv-loop μ-loop
 loop-again c = search (total-next, needs)
 
 returns-2 : tie.Need-returns-2 Inv-loop μ-loop
-returns-2 c = search (total-within, needs)
+returns-2 c = (search (total-within, needs), search needs)
 
 pub within-limit-spec : {M : Type 1} → statement M
 within-limit-spec =

@@ -19,7 +19,7 @@ use Rattle.runoff.proofs.LineRule.{runoff-rises}
 use Rattle.site.specs.declared.SubArea.{SubArea}
 use Rattle.volume.specs.Volume.{volumeOf, depthOf}
 use Rattle.volume.specs.Areas.{areaAt, soilsRunoff, volumeFrom, notAbove}
-use Rattle.volume.proofs.Rising.{volume-rises, volume-zero}
+use Rattle.volume.proofs.Rising.{volume-rises, volume-zero, none-at-zero}
 
 -- V from six areas never falls with depth.
 pub from-rises : (xs : List Area) (d e : ℕ) → d ≤ e → e ≤ highestDepth → volumeFrom xs d ≤ volumeFrom xs e
@@ -33,6 +33,11 @@ from-rises xs d e h k =
     let l = mul-le-mul-left (areaAt xs 5) (runoff-rises D d e h k) in
     omega arith
 
+-- V from six areas starts at 0.
+from-zero : (xs : List Area) → volumeFrom xs 0 ≡ 0
+unfolding volumeFrom
+from-zero xs = simp (none-at-zero A, none-at-zero B, none-at-zero C, none-at-zero CD, none-at-zero D) (omega arith)
+
 -- A volume once passed is passed at every greater depth.
 once-above : (xs : List Area) (v : ℕ) → Once (notAbove xs v) gridDepths
 once-above xs v i j h k e = le-leb _ _ (le-trans (from-rises xs i j h (omega arith)) (leb-true _ _ e))
@@ -40,6 +45,14 @@ once-above xs v i j h k e = le-leb _ _ (le-trans (from-rises xs i j h (omega ari
 module _ (xs : List Area) (v : ℕ) where
   pub above-starts : Halving (notAbove xs v) gridDepths 8 0 gridDepths
   above-starts = halving-starts (notAbove xs v) gridDepths 8 (once-above xs v) (lit< tt)
+
+  -- V(0) = 0 is not above any volume.
+  pub some-within : (r : ℕ) → r ≡ first (notAbove xs v) gridDepths → 1 ≤ r
+  unfolding volumeFrom
+  some-within r e =
+      let z = from-zero xs in
+      let l = passes-so-above (notAbove xs v) gridDepths 0 (once-above xs v) (lit< tt) (le-leb (volumeFrom xs 0) v (omega arith)) in
+      omega arith
 
   pub above-up : (trials low high r : ℕ) → Halving (notAbove xs v) gridDepths trials low high → 0 < trials → low < high
       → r ≡ volumeFrom xs (middle low high) → r ≤ v → Halving (notAbove xs v) gridDepths (trials - 1) (middle low high + 1) high

@@ -1,4 +1,4 @@
--- `volume::gathered` meets its contract: the loop's invariant says that the six areas so far with the sub-areas that are left,
+-- `volume::six_areas` meets its contract: the loop's invariant says that the six areas so far with the sub-areas that are left,
 -- come to those of the site. A sum fits, being at most the total area.
 -- Assumes nothing.
 use borrow.Author.Needs.{needs}
@@ -7,8 +7,8 @@ use mathlib.Core.Path.{_≡_, sym, _∙_}
 use lib.ListN.{length, length-map}
 use Rattle.site.specs.Parts.{mostParts}
 use Rattle.volume.proofs.Gathering.{Gathering, gather-starts, gather-next, gather-fits, gather-ends}
-use Rattle.volume.proofs.gathered.Statement.{statement}
-use Rattle.volume.proofs.gathered.Tie as tie
+use Rattle.volume.proofs.six_areas.Statement.{statement}
+use Rattle.volume.proofs.six_areas.Tie as tie
 
 abbrev Inv-loop : tie.InvT-loop
 Inv-loop site count of₀ i₀ of i = Gathering site i of
@@ -57,8 +57,8 @@ loop-again c = search (gather-next, needs)
 returns : tie.Need-returns Inv-loop μ-loop
 returns c = search (gather-ends, needs)
 
-pub gathered-spec : {M : Type 1} → statement M
-gathered-spec =
+pub six-areas-spec : {M : Type 1} → statement M
+six-areas-spec =
     tie.close
     (tie.spec
     Inv-loop
