@@ -5,3 +5,4 @@ pub mod Rising
 pub mod Reaching
 pub mod Limit
 pub mod Answered
+pub mod Promises

@@ -1,3 +1,4 @@
 pub mod Volume
 pub mod Areas
 pub mod Answers
+pub mod Promises
