@@ -16,11 +16,11 @@ use Rattle.site.specs.declared.AreaAnswer.the-variants.{Granted, Refused
 use Rattle.site.specs.Soils.{suits}
 use Rattle.site.specs.Parts.{mostParts, partsOf, areaOf, totalArea, imperviousArea}
 
--- 2: an area outside 1 to 1,000,000, or a soil that does not suit the cover
+-- a sub-area that is not refused 2: its area is from 1 to 1,000,000, and its soil suits its cover
 abbrev pub fits : SubArea → Bool
 fits p = leb 1 (areaOf p) && leb (areaOf p) mostArea && suits (p .cover) (p .soil)
 
--- 3: the area would bring the total past 1,000,000
+-- an area that is not refused 3: with it the total is at most 1,000,000
 abbrev pub hasRoom : ℕ → ℕ → Bool
 hasRoom total area = leb (total + area) mostArea
 
