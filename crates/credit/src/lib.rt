@@ -1,4 +1,6 @@
-// 01, "Crediting" and "Sizing": the figures that a granted job gives back.
+// 01, "Crediting" and "Sizing": on a lent sheet and on a published practice.
+ghost use mathlib.Core.Path.{_≡_};
+use refusal::Refusal;
 use units::Depth;
 use units::Load;
 use units::Percent;
@@ -11,4 +13,11 @@ pub struct Figures {
     pub percent: Percent,
     pub volume: Volume,
     pub removed: Load,
+}
+
+pub enum CreditAnswer {
+    Granted(Figures),
+    // 5, with the list and the place of the fault.
+    BadSheet { list: u64, place: usize },
+    Refused(Refusal),
 }

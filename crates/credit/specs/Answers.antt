@@ -1,0 +1,100 @@
+-- 01, "The numbers given back": credit and size judge the record before all else (14, 2, 3), then try 4 or 5, 6, 7, 8, 9, 15 and 10.
+-- Assumes nothing.
+use Prim.Native.Nat.{ℕ}
+use mathlib.Core.List.{List, [], _∷_}
+use Rattle.laws.specs.Turn.{inTurn}
+use Rattle.refusal.specs.declared.Refusal.{Refusal}
+use Rattle.refusal.specs.declared.Refusal.the-variants.{NoPublishedSheet, UnfitSheet}
+use Rattle.refusal.specs.Refusal.{numberOf, granted}
+use Rattle.units.specs.declared.Nutrient.{Nutrient}
+use Rattle.site.specs.declared.SubArea.{SubArea}
+use Rattle.site.specs.declared.Site.{Site}
+use Rattle.site.specs.Parts.{partsOf, imperviousArea}
+use Rattle.site.specs.Judging.{judged, afterJudging}
+use Rattle.loads.specs.Rates as rates
+use Rattle.loads.specs.Loads.{loadOf}
+use Rattle.volume.specs.Volume.{volumeOf}
+use Rattle.curve.specs.declared.Mode.{Mode}
+use Rattle.curve.specs.declared.Curves.{Curves}
+use Rattle.curve.specs.declared.Admission.{Admission}
+use Rattle.curve.specs.declared.Admission.the-variants as admission
+use Rattle.curve.specs.Curve.{percentAt}
+use Rattle.curve.specs.Answers.{admissionOf}
+use Rattle.published.specs.Tables.{depths}
+use Rattle.published.specs.Published.{ratesOf, percentsOf, isPublished}
+use Rattle.credit.specs.declared.Figures.{Figures}
+use Rattle.credit.specs.declared.CreditAnswer.{CreditAnswer}
+use Rattle.credit.specs.declared.CreditAnswer.the-variants.{Granted, BadSheet, Refused}
+use Rattle.credit.specs.Credit.{creditBy, sizeBy}
+
+-- A sheet: one that is lent, by its depths, rates and percents, or the published one of a practice.
+pub data Sheet : Type 0 where
+  lent : List ℕ → List ℕ → List ℕ → Sheet
+  published : ℕ → Sheet
+
+-- what is asked of a site: the credit of a volume, or the size of a target
+pub data Wanted : Type 0 where
+  credit : ℕ → Wanted
+  size : ℕ → Wanted
+
+-- 5, 6 and 7 refuse; an admitted sheet goes on with its curves
+abbrev pub onCurves : (Curves → CreditAnswer) → Admission → CreditAnswer
+onCurves onward (admission.Admitted c) = onward c
+onCurves onward (admission.BadSheet list place) = BadSheet list place
+onCurves onward (admission.Refused why) = Refused why
+
+-- crediting or sizing by a load, an impervious area, a V and the percent at each depth
+abbrev pub worked : Wanted → ℕ → ℕ → (ℕ → ℕ) → (ℕ → ℕ) → CreditAnswer
+worked (credit v) load impervious volumeAt percents = creditBy load impervious volumeAt percents v
+worked (size target) load impervious volumeAt percents = sizeBy load impervious volumeAt percents target
+
+-- the same on a sheet of depths ds, rates rs and percents ps
+unfoldable pub onSheet : Wanted → ℕ → ℕ → (ℕ → ℕ) → List ℕ → List ℕ → List ℕ → Mode → ℕ → CreditAnswer
+onSheet wanted load impervious volumeAt ds rs ps mode r =
+    onCurves (λ c. worked wanted load impervious volumeAt (percentAt ds ps c)) (admissionOf ds rs ps mode r)
+
+-- the same for a list of sub-areas, with its own load, impervious area and V
+abbrev pub onParts : Wanted → Nutrient → List SubArea → List ℕ → List ℕ → List ℕ → Mode → ℕ → CreditAnswer
+onParts wanted n parts ds rs ps mode r =
+    onSheet wanted (loadOf (rates.ratesOf n) parts) (imperviousArea parts) (volumeOf parts) ds rs ps mode r
+
+-- a practice that has no published sheet is refused 4
+abbrev pub bySheet : Sheet → Wanted → Nutrient → List SubArea → Mode → ℕ → CreditAnswer
+bySheet (lent ds rs ps) wanted n parts mode r = onParts wanted n parts ds rs ps mode r
+bySheet (published practice) wanted n parts mode r =
+    inTurn Refused (onParts wanted n parts depths (ratesOf practice n) (percentsOf practice n) mode r)
+    ((isPublished practice n, NoPublishedSheet) ∷ [])
+
+-- the answer for a site: its record is judged before all else
+unfoldable pub answerOf : Sheet → Wanted → Nutrient → Site → Mode → ℕ → CreditAnswer
+answerOf sheet wanted n s mode r = afterJudging Refused (λ total. bySheet sheet wanted n (partsOf s) mode r) (judged s)
+
+-- The paper's number and values: zeros for a refusal, but for the list and place of 5.
+pub record Given : Type 0 where
+  pub answer : ℕ
+  pub list : ℕ
+  pub place : ℕ
+  pub load : ℕ
+  pub depth : ℕ
+  pub percent : ℕ
+  pub volume : ℕ
+  pub removed : ℕ
+
+abbrev pub refusedWith : ℕ → ℕ → ℕ → Given
+refusedWith number list place =
+    record { answer = number; list = list; place = place; load = 0; depth = 0; percent = 0; volume = 0; removed = 0 }
+
+abbrev pub given : CreditAnswer → Given
+given (Granted f) =
+    record {
+      answer = granted;
+      list = 0;
+      place = 0;
+      load = f .load .0;
+      depth = f .depth .0;
+      percent = f .percent .0;
+      volume = f .volume .0;
+      removed = f .removed .0;
+    }
+given (BadSheet list place) = refusedWith (numberOf UnfitSheet) list place
+given (Refused why) = refusedWith (numberOf why) 0 0
