@@ -1,2 +1,4 @@
 pub mod Credit
 pub mod Answers
+pub mod Promises
+pub mod Numbers

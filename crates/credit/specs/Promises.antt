@@ -1,0 +1,127 @@
+-- Demands 2 and 3: what is promised of crediting and sizing, for every lent sheet and every published practice, every site record,
+-- every rate and both modes, through the numbers and values that are given back. Proved in proofs/Promises.antt.
+-- Assumes nothing.
+use Prim.Native.Nat.{ℕ, _≤_, _<_}
+use mathlib.Core.List.{List}
+use mathlib.Core.Logic.{_↔_}
+use mathlib.Core.Path.{_≡_}
+use Rattle.refusal.specs.Refusal.{numberOf, granted}
+use Rattle.refusal.specs.declared.Refusal.the-variants.{TargetUnreachable}
+use Rattle.units.specs.declared.Nutrient.{Nutrient}
+use Rattle.units.specs.Limits.{largest, mostPercent}
+use Rattle.site.specs.declared.Site.{Site}
+use Rattle.site.specs.Parts.{partsOf}
+use Rattle.loads.specs.Rates as rates
+use Rattle.loads.specs.Loads.{loadOf, removedOf}
+use Rattle.volume.specs.Volume.{volumeOf, depthOf}
+use Rattle.curve.specs.declared.Mode.{Mode}
+use Rattle.curve.specs.Curve.{percentOf}
+use Rattle.curve.specs.Promises.{FasterIsNoLess}
+use Rattle.published.specs.Tables.{depths}
+use Rattle.published.specs.Published.{ratesOf, percentsOf}
+use Rattle.credit.specs.Credit.{depthReaching}
+use Rattle.credit.specs.Answers.{Sheet, lent, published, credit, size, answerOf, Given, given}
+
+-- what crediting a volume gives back, and what sizing a target gives back
+abbrev pub Credited : Sheet → Nutrient → Site → Mode → ℕ → ℕ → Given
+Credited sheet n s mode r v = given (answerOf sheet (credit v) n s mode r)
+
+abbrev pub Sized : Sheet → Nutrient → Site → Mode → ℕ → ℕ → Given
+Sized sheet n s mode r target = given (answerOf sheet (size target) n s mode r)
+
+-- a sheet's depths, rates and percents, those of the tables for a published practice
+abbrev pub depthsIn : Sheet → List ℕ
+depthsIn (lent ds rs ps) = ds
+depthsIn (published practice) = depths
+
+abbrev pub ratesIn : Sheet → Nutrient → List ℕ
+ratesIn (lent ds rs ps) n = rs
+ratesIn (published practice) n = ratesOf practice n
+
+abbrev pub percentsIn : Sheet → Nutrient → List ℕ
+percentsIn (lent ds rs ps) n = ps
+percentsIn (published practice) n = percentsOf practice n
+
+-- the percent of a sheet at a site rate and a depth
+abbrev pub percentOn : Sheet → Nutrient → Mode → ℕ → ℕ → ℕ
+percentOn sheet n mode r d = percentOf (depthsIn sheet) (ratesIn sheet n) (percentsIn sheet n) mode r d
+
+-- Demand 2, from volume to credit: "Loads, credits and design volumes equal those of the EPA document by its tables and equations."
+abbrev pub CreditIsByTheTables : Type 0
+CreditIsByTheTables =
+    (sheet : Sheet) (n : Nutrient) (s : Site) (mode : Mode) (r v : ℕ)
+    → Credited sheet n s mode r v .answer ≡ granted
+    → (Credited sheet n s mode r v .load ≡ loadOf (rates.ratesOf n) (partsOf s))
+    × (Credited sheet n s mode r v .depth ≡ depthOf (partsOf s) v)
+    × (Credited sheet n s mode r v .percent ≡ percentOn sheet n mode r (depthOf (partsOf s) v))
+    × (Credited sheet n s mode r v .volume ≡ v)
+    × (Credited sheet n s mode r v .removed ≡ removedOf (Credited sheet n s mode r v .load) (Credited sheet n s mode r v .percent))
+
+-- Demand 2, from target to volume.
+abbrev pub SizeIsByTheTables : Type 0
+SizeIsByTheTables =
+    (sheet : Sheet) (n : Nutrient) (s : Site) (mode : Mode) (r target : ℕ)
+    → Sized sheet n s mode r target .answer ≡ granted
+    → (Sized sheet n s mode r target .load ≡ loadOf (rates.ratesOf n) (partsOf s))
+    × (Sized sheet n s mode r target .depth ≡ depthReaching (percentOn sheet n mode r) target)
+    × (Sized sheet n s mode r target .percent ≡ percentOn sheet n mode r (Sized sheet n s mode r target .depth))
+    × (Sized sheet n s mode r target .volume ≡ volumeOf (partsOf s) (Sized sheet n s mode r target .depth))
+    × (Sized sheet n s mode r target .removed ≡ removedOf (Sized sheet n s mode r target .load) (Sized sheet n s mode r target .percent))
+
+-- Demand 3: "Among granted answers, with site, rate and mode kept, more storage never lowers the percent", nor the removed load.
+abbrev pub MoreStorageNeverLess : Type 0
+MoreStorageNeverLess =
+    (sheet : Sheet) (n : Nutrient) (s : Site) (mode : Mode) (r v w : ℕ)
+    → v ≤ w
+    → Credited sheet n s mode r v .answer ≡ granted
+    → Credited sheet n s mode r w .answer ≡ granted
+    → (Credited sheet n s mode r v .percent ≤ Credited sheet n s mode r w .percent)
+    × (Credited sheet n s mode r v .removed ≤ Credited sheet n s mode r w .removed)
+
+-- "A higher target never gets a smaller volume."
+abbrev pub HigherTargetNeverSmaller : Type 0
+HigherTargetNeverSmaller =
+    (sheet : Sheet) (n : Nutrient) (s : Site) (mode : Mode) (r t u : ℕ)
+    → t ≤ u
+    → Sized sheet n s mode r t .answer ≡ granted
+    → Sized sheet n s mode r u .answer ≡ granted
+    → Sized sheet n s mode r t .volume ≤ Sized sheet n s mode r u .volume
+
+-- "The volume given is credited with at least its target, and every smaller volume with less."
+abbrev pub SizedIsLeast : Type 0
+SizedIsLeast =
+    (sheet : Sheet) (n : Nutrient) (s : Site) (mode : Mode) (r target : ℕ)
+    → Sized sheet n s mode r target .answer ≡ granted
+    → (Credited sheet n s mode r (Sized sheet n s mode r target .volume) .answer ≡ granted)
+    × (target ≤ Credited sheet n s mode r (Sized sheet n s mode r target .volume) .percent)
+    × ((v : ℕ)
+    → v < Sized sheet n s mode r target .volume
+    → (Credited sheet n s mode r v .answer ≡ granted) × (Credited sheet n s mode r v .percent < target))
+
+-- "A target of 0 to 100 percent is refused as unreachable exactly when no volume within the limit is credited with it." That all else
+-- is accepted says that the volume 0 is credited; then so is every volume within the limit.
+abbrev pub UnreachableExactly : Type 0
+UnreachableExactly =
+    (sheet : Sheet) (n : Nutrient) (s : Site) (mode : Mode) (r target : ℕ)
+    → target ≤ mostPercent
+    → Credited sheet n s mode r 0 .answer ≡ granted
+    → ((v : ℕ) → v ≤ largest → Credited sheet n s mode r v .answer ≡ granted)
+    × ((Sized sheet n s mode r target .answer ≡ numberOf TargetUnreachable)
+    ↔ ((v : ℕ) → v ≤ largest → Credited sheet n s mode r v .percent < target))
+
+-- "Where no percent of the sheet falls as its rate rises, a faster soil never lowers the credit."
+abbrev pub FasterSoilNeverLess : Type 0
+FasterSoilNeverLess =
+    (sheet : Sheet) (n : Nutrient) (s : Site) (mode : Mode) (r q v : ℕ)
+    → FasterIsNoLess (depthsIn sheet) (ratesIn sheet n) (percentsIn sheet n)
+    → r ≤ q
+    → Credited sheet n s mode r v .answer ≡ granted
+    → Credited sheet n s mode q v .answer ≡ granted
+    → Credited sheet n s mode r v .percent ≤ Credited sheet n s mode q v .percent
+
+-- Sizing, and then crediting the volume it gave, gives back the same.
+abbrev pub SizingAgrees : Type 0
+SizingAgrees =
+    (sheet : Sheet) (n : Nutrient) (s : Site) (mode : Mode) (r target : ℕ)
+    → Sized sheet n s mode r target .answer ≡ granted
+    → Credited sheet n s mode r (Sized sheet n s mode r target .volume) ≡ Sized sheet n s mode r target
