@@ -25,6 +25,8 @@ use Rattle.published.specs.Published.{ratesOf, percentsOf, isPublished}
 use Rattle.credit.specs.declared.Figures.{Figures}
 use Rattle.credit.specs.declared.CreditAnswer.{CreditAnswer}
 use Rattle.credit.specs.declared.CreditAnswer.the-variants.{Granted, BadSheet, Refused}
+use Rattle.credit.specs.declared.Wanted.{Wanted}
+use Rattle.credit.specs.declared.Wanted.the-variants.{Credit, Size}
 use Rattle.credit.specs.Credit.{creditBy, sizeBy}
 
 -- A sheet: one that is lent, by its depths, rates and percents, or the published one of a practice.
@@ -33,9 +35,11 @@ pub data Sheet : Type 0 where
   published : ℕ → Sheet
 
 -- what is asked of a site: the credit of a volume, or the size of a target
-pub data Wanted : Type 0 where
-  credit : ℕ → Wanted
-  size : ℕ → Wanted
+abbrev pub credit : ℕ → Wanted
+credit v = Credit (record { 0 = v })
+
+abbrev pub size : ℕ → Wanted
+size target = Size (record { 0 = target })
 
 -- 5, 6 and 7 refuse; an admitted sheet goes on with its curves
 abbrev pub onCurves : (Curves → CreditAnswer) → Admission → CreditAnswer
@@ -45,8 +49,8 @@ onCurves onward (admission.Refused why) = Refused why
 
 -- crediting or sizing by a load, an impervious area, a V and the percent at each depth
 abbrev pub worked : Wanted → ℕ → ℕ → (ℕ → ℕ) → (ℕ → ℕ) → CreditAnswer
-worked (credit v) load impervious volumeAt percents = creditBy load impervious volumeAt percents v
-worked (size target) load impervious volumeAt percents = sizeBy load impervious volumeAt percents target
+worked (Credit v) load impervious volumeAt percents = creditBy load impervious volumeAt percents (v .0)
+worked (Size target) load impervious volumeAt percents = sizeBy load impervious volumeAt percents (target .0)
 
 -- the same on a sheet of depths ds, rates rs and percents ps
 unfoldable pub onSheet : Wanted → ℕ → ℕ → (ℕ → ℕ) → List ℕ → List ℕ → List ℕ → Mode → ℕ → CreditAnswer

@@ -1,6 +1,7 @@
 -- 01, "Curve sheets": crediting and sizing, by the site's load, its impervious area and its V, and by the percent at each depth.
 -- Assumes nothing.
 use Prim.Native.Nat.{ℕ, _-_}
+use mathlib.Core.Bool.{Bool}
 use mathlib.Core.List.{List, [], _∷_}
 use lib.Dec.{leb, ltb}
 use Rattle.laws.specs.First.{first}
@@ -41,15 +42,19 @@ creditBy load impervious volumeAt percentAt v =
 abbrev pub depthReaching : (ℕ → ℕ) → ℕ → ℕ
 depthReaching percentAt target = first (λ d. ltb (percentAt d) target) gridDepths
 
--- Sizing: the least grid depth whose percent is at least the target, then V. 8, 9, 15 and 10 are tried before it.
-unfoldable pub sizeBy : ℕ → ℕ → (ℕ → ℕ) → (ℕ → ℕ) → ℕ → CreditAnswer
-sizeBy load impervious volumeAt percentAt target =
-    inTurn Refused
-    (Granted
-    (figuresOf load (depthReaching percentAt target) (percentAt (depthReaching percentAt target)) (volumeAt (depthReaching percentAt target))))
+-- a sizing at a depth and its percent: 8, 9 and 15 are tried, and 10 where the target is not reached
+unfoldable pub sizedAt : ℕ → ℕ → (ℕ → ℕ) → ℕ → ℕ → ℕ → Bool → CreditAnswer
+sizedAt load impervious volumeAt target depth percent reached =
+    inTurn Refused (Granted (figuresOf load depth percent (volumeAt depth)))
     ((ltb 0 impervious, NoImperviousArea)
     ∷ (leb target mostPercent, AmountOutOfRange)
     ∷ (leb load largest, PastLargest)
     ∷ (leb (volumeAt highestDepth) largest, PastLargest)
-    ∷ (leb target (percentAt highestDepth), TargetUnreachable)
+    ∷ (reached, TargetUnreachable)
     ∷ [])
+
+-- Sizing: the least grid depth whose percent is at least the target, then V. A target above the percent at depth 200 is refused 10.
+abbrev pub sizeBy : ℕ → ℕ → (ℕ → ℕ) → (ℕ → ℕ) → ℕ → CreditAnswer
+sizeBy load impervious volumeAt percentAt target =
+    sizedAt load impervious volumeAt target (depthReaching percentAt target) (percentAt (depthReaching percentAt target))
+    (leb target (percentAt highestDepth))

@@ -1,12 +1,17 @@
 // 01, "Crediting" and "Sizing": on a lent sheet and on a published practice.
-ghost use mathlib.Core.Path.{_≡_};
 use refusal::Refusal;
 use units::Depth;
 use units::Load;
 use units::Percent;
 use units::Volume;
 
-// What a granted credit or size job gives: the site's load, the grid depth, its percent, the volume and the removed load.
+// What is asked of a site: the credit of a volume, or the size of a target.
+pub enum Wanted {
+    Credit(Volume),
+    Size(Percent),
+}
+
+// What a granted answer gives: the site's load, the grid depth, its percent, the volume and the removed load.
 pub struct Figures {
     pub load: Load,
     pub depth: Depth,
