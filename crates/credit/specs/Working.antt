@@ -9,5 +9,5 @@ use Rattle.volume.specs.Areas.{Six}
 -- the six areas of a site, with a load and a percent within their limits
 pub record Work (xs : List Area) (load percent : ℕ) : Type 0 where
   pub areas : Six xs
-  pub load : load ≤ largest
-  pub percent : percent ≤ mostPercent
+  pub fits : load ≤ largest
+  pub whole : percent ≤ mostPercent
