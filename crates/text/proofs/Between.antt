@@ -8,14 +8,14 @@ use mathlib.Core.Logic.{_⊎_, inl, inr, ⊎-elim}
 use native.Mathlib.Nat.{add-zero, min-eq-left, min-eq-right}
 use native.Mathlib.Numerals.{add-one}
 use native.Mathlib.Omega.{arith}
-use lib.ListN.{length, getD, take, drop, length-drop, drop-of-length-le}
+use lib.ListN.{length, getD, take, drop, length-take, length-drop, drop-of-length-le}
 use lib.Seq.{take-nil, drop-drop, drop-length, drop-nil, getD-drop}
 use borrow.Author.Tests.{ltb-false}
 use Rattle.laws.proofs.Order.{lt-or-le}
 use Rattle.text.specs.Part.{partOf}
 use Rattle.text.specs.Pieces.{indexOf, hasOf, beforeOf, afterOf, pieces, nextOf, startOf, endOf}
 use Rattle.text.proofs.Parts.{part-tail, part-head}
-use Rattle.text.proofs.Splitting.{pieces-step}
+use Rattle.text.proofs.Splitting.{index-within, pieces-step, start-within}
 
 -- ps are the pieces of the text t that is left; past the last piece nothing is left of either
 abbrev pub Rest : ℕ → List ℕ → List (List ℕ) → Type 0
@@ -69,12 +69,72 @@ rest-start b s (suc k) =
     subst (λ (t : List ℕ). Rest b t (drop (suc k) ps)) (sym (start-after b s k))
     (rw e at (rest-after b (drop (startOf b s k) s) (drop k ps) (rest-start b s k)))
 
+-- The text from piece k on holds the pieces from k on.
+pub rest-from : (b : ℕ) (s : List ℕ) (k : ℕ) → Rest b (partOf s (startOf b s k) (length s)) (drop k (pieces b s))
+rest-from b s k =
+    subst (λ (t : List ℕ). Rest b t (drop k (pieces b s))) (sym (part-tail s (startOf b s k))) (rest-start b s k)
+
+-- the first piece of the text from piece k on is piece k
+piece-first : (b : ℕ) (s : List ℕ) (k : ℕ) → take (indexOf b (drop (startOf b s k) s)) (drop (startOf b s k) s) ≡ getD (pieces b s) k []
+piece-first b s k =
+    let t = drop (startOf b s k) s in
+    sym (part-head t (indexOf b t))
+    ∙ sym (rest-first b t (drop k (pieces b s)) (rest-start b s k))
+    ∙ getD-drop k (pieces b s) 0 []
+    ∙ ap (λ (n : ℕ). getD (pieces b s) n []) (add-zero k)
+
 -- The bytes of piece k are those of the k-th of the pieces: none where there are fewer.
 pub piece-bytes : (b : ℕ) (s : List ℕ) (k : ℕ) → partOf s (startOf b s k) (endOf b s k) ≡ getD (pieces b s) k []
 unfolding partOf
 piece-bytes b s k =
     let from = startOf b s k in
-    let t = drop from s in
-    let e : from + indexOf b t - from ≡ indexOf b t = omega arith in
-    let f = rest-first b t (drop k (pieces b s)) (rest-start b s k) in
-    rw (part-tail s from, e) (sym (part-head t (indexOf b t)) ∙ sym f ∙ getD-drop k (pieces b s) 0 [] ∙ ap (λ (n : ℕ). getD (pieces b s) n []) (add-zero k))
+    let e : from + indexOf b (drop from s) - from ≡ indexOf b (drop from s) = omega arith in
+    rw (part-tail s from, e) (piece-first b s k)
+
+-- a text has a first piece
+some-piece : (b : ℕ) (t : List ℕ) → pieces b t ≡ [] → ⊥
+some-piece b t e =
+    let s = pieces-step b t in
+    let z : _≡_ {A = ℕ} 0 1 = cc in
+    omega arith
+
+-- what stands behind the last piece
+last-has : (b : ℕ) (t : List ℕ) → drop 1 (pieces b t) ≡ [] → length t ≤ indexOf b t
+last-has b t e = ltb-false (indexOf b t) (length t) (at (hasOf b t) refl (rw (pieces-step b t) at e))
+  where
+    at : (h : Bool) → hasOf b t ≡ h → cond h (pieces b (afterOf b t)) [] ≡ [] → hasOf b t ≡ false
+    at true h f = absurd (some-piece b (afterOf b t) f)
+    at false h f = h
+
+-- The last piece ends where the text does.
+pub last-ends : (b : ℕ) (s : List ℕ) (k : ℕ) → length (pieces b s) ≤ suc k → endOf b s k ≡ length s
+last-ends b s k h = at (rest-start b s k)
+  where
+    from : ℕ
+    from = startOf b s k
+
+    none : drop 1 (drop k (pieces b s)) ≡ []
+    none = drop-drop 1 k (pieces b s) ∙ drop-of-length-le (pieces b s) {i = k + 1} (omega arith)
+
+    at : Rest b (drop from s) (drop k (pieces b s)) → endOf b s k ≡ length s
+    at (inl e) =
+        let l = last-has b (drop from s) (ap (drop 1) (sym e) ∙ none) in
+        let w = index-within b (drop from s) in
+        let m = length-drop from s in
+        let u = start-within b s k in
+        rw (part-tail s from) (omega arith)
+    at (inr p) =
+        let m = length-drop from s in
+        let n = ap length (p .1) in
+        let w = index-within b (drop from s) in
+        let u = start-within b s k in
+        rw (part-tail s from) (omega arith)
+
+-- An empty piece ends where it starts.
+pub empty-starts : (b : ℕ) (s : List ℕ) (k : ℕ) → getD (pieces b s) k [] ≡ [] → startOf b s k ≡ endOf b s k
+empty-starts b s k e =
+    let from = startOf b s k in
+    let n = ap length (piece-first b s k ∙ e) in
+    let l = length-take (indexOf b (drop from s)) (drop from s) in
+    let w = index-within b (drop from s) in
+    rw (part-tail s from) (omega arith)

@@ -9,7 +9,7 @@ use lib.ListN.{length}
 use Rattle.text.specs.declared.Found.{Found}
 use Rattle.text.specs.declared.Found.the-variants.{At, Nothing}
 use Rattle.text.specs.Pieces.{hasOf, beforeOf, afterOf, pieces, space}
-use Rattle.text.specs.Words.{sameOf, placeFrom, placeOf}
+use Rattle.text.specs.Words.{sameOf, placeFrom, placeOf, Within}
 use Rattle.text.proofs.Splitting.{pieces-step, after-shorter}
 
 -- k words have been looked at, and what is left of them decides
@@ -38,12 +38,15 @@ module _ {words s : List ℕ} where
         decides = rw (pieces-step space rest, ← e, ← f, t, ← h, n, ← a) at (l .decides);
       }
 
--- A place that was found is one of the words'.
-pub place-below : (ws : List (List ℕ)) (s : List ℕ) (k : ℕ) {p : ℕ} → placeFrom ws s k ≡ At p → p < k + length ws
+-- A place that is found is one of the words'.
+place-from : (ws : List (List ℕ)) (s : List ℕ) (k n : ℕ) → k + length ws ≤ n → Within n (placeFrom ws s k)
 unfolding placeFrom
-place-below [] s k e = absurd (let z : _≡_ {A = ℕ} 0 1 = cc in omega arith)
-place-below (w ∷ ws) s k {p} e = at (sameOf w s) e (place-below ws s (k + 1))
+place-from [] s k n h = tt
+place-from (w ∷ ws) s k n h = at (sameOf w s) (place-from ws s (k + 1) n (omega arith))
   where
-    at : (b : Bool) → cond b (At k) (placeFrom ws s (k + 1)) ≡ At p → (placeFrom ws s (k + 1) ≡ At p → p < k + 1 + length ws) → p < k + suc (length ws)
-    at true e later = let h : k ≡ p = cc in omega arith
-    at false e later = let h = later e in omega arith
+    at : (b : Bool) → Within n (placeFrom ws s (k + 1)) → Within n (cond b (At k) (placeFrom ws s (k + 1)))
+    at true later = omega arith
+    at false later = later
+
+pub place-within : (words s : List ℕ) (n : ℕ) {found : Found} → found ≡ placeOf words s → length (pieces space words) ≡ n → Within n found
+place-within words s n e f = rw (e, ← f) (place-from (pieces space words) s 0 (length (pieces space words)) (omega arith))

@@ -9,8 +9,8 @@ use native.Mathlib.Numerals.{add-one}
 use native.Mathlib.Omega.{arith}
 use lib.Dec.{eqb, ltb, leb·suc-suc}
 use lib.ListN.{length, getD, take, drop, length-drop, drop-of-length-le}
-use lib.Seq.{drop-cons, drop-drop}
-use borrow.Author.Tests.{eq-eqb, ne-eqb, lt-ltb, ltb-true}
+use lib.Seq.{take-all, drop-cons, drop-drop}
+use borrow.Author.Tests.{eq-eqb, ne-eqb, lt-ltb, ltb-true, ltb-false}
 use Rattle.text.specs.Part.{partOf}
 use Rattle.text.specs.Pieces.{indexOf, hasOf, beforeOf, afterOf, joined, pieces, nextOf, startOf}
 use Rattle.text.proofs.Parts.{part-tail, part-head}
@@ -59,6 +59,10 @@ step b (x ∷ s) = at (eqb x b) (step b s)
 -- a text's first piece, and the others
 pub pieces-step : (b : ℕ) (s : List ℕ) → pieces b s ≡ beforeOf b s ∷ cond (hasOf b s) (pieces b (afterOf b s)) []
 pieces-step b s = rw (part-head s (indexOf b s), part-tail s (indexOf b s + 1)) (step b s)
+
+-- all of a text stands before a byte that is not there
+pub before-all : (b : ℕ) (s : List ℕ) → hasOf b s ≡ false → beforeOf b s ≡ s
+before-all b s h = part-head s (indexOf b s) ∙ take-all (indexOf b s) s (ltb-false (indexOf b s) (length s) h)
 
 -- what stands after a byte that is there is shorter
 pub after-shorter : (b : ℕ) (s : List ℕ) {there : Bool} {next : List ℕ} → there ≡ hasOf b s → there ≡ true → next ≡ afterOf b s → length next < length s

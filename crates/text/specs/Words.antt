@@ -1,6 +1,6 @@
 -- Texts compared, and a word's place in a list of words.
 -- Assumes nothing.
-use Prim.Native.Nat.{ℕ, _+_}
+use Prim.Native.Nat.{ℕ, _+_, _<_}
 use mathlib.Core.Bool.{Bool, true, false, cond, _&&_}
 use mathlib.Core.List.{List, [], _∷_}
 use lib.ListN.{length}
@@ -29,3 +29,8 @@ placeFrom (w ∷ ws) s k = cond (sameOf w s) (At k) (placeFrom ws s (k + 1))
 -- the place of s in a list of words with a space between each two, counted from 0
 abbrev pub placeOf : List ℕ → List ℕ → Found
 placeOf words s = placeFrom (pieces space words) s 0
+
+-- a place that is found is one of n
+abbrev pub Within : ℕ → Found → Type 0
+Within n (At k) = k < n
+Within n Nothing = Unit {0}

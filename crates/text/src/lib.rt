@@ -32,12 +32,14 @@ pub fn part(s: &[u8], from: usize, to: usize) -> &[u8]
     &s[start..stop]
 }
 
+// The smaller of two places.
 fn least(a: usize, b: usize) -> usize
     ensures { λ r. ⌜ r ≡ min a b ⌝ }
 {
     if a < b { a } else { b }
 }
 
+// The larger of two places.
 fn most(a: usize, b: usize) -> usize
     ensures { λ r. ⌜ r ≡ max a b ⌝ }
 {
@@ -109,6 +111,13 @@ pub fn piece(s: &[u8], b: u8, k: usize) -> &[u8]
 {
     let from = start(s, b, k);
     part(s, from, next(s, b, from))
+}
+
+// The text from piece k of s between b on, counted from 0: nothing, at the end, where there are fewer.
+pub fn from_piece(s: &[u8], b: u8, k: usize) -> &[u8]
+    ensures { λ r. ⌜ Part (s .entry) (startOf b (now (s .entry)) k) (length (now (s .entry))) r ⌝ }
+{
+    part(s, start(s, b, k), s.len())
 }
 
 // Two texts are the same, byte for byte.

@@ -1,0 +1,108 @@
+-- The promises of a reading.
+-- Assumes nothing.
+use Prim.Native.Nat.{ℕ, suc, _+_, _≤_}
+use mathlib.Core.Bool.{Bool, true, false, cond, _&&_}
+use mathlib.Core.List.{List, [], _∷_}
+use mathlib.Core.Path.{_≡_, refl, sym, _∙_, ap}
+use native.Mathlib.Omega.{arith}
+use lib.Dec.{eqb, ltb, leb}
+use lib.ListN.{length, getD, drop, length-set}
+use Rattle.refusal.specs.declared.Refusal.{Refusal}
+use Rattle.refusal.specs.declared.Refusal.the-variants.{MalformedText, UnfitSubArea, TotalAreaPassed, SiteFull}
+use Rattle.units.specs.declared.Area.{Area}
+use Rattle.site.specs.declared.Site.{Site}
+use Rattle.site.specs.declared.SubArea.{SubArea}
+use Rattle.site.specs.declared.Added.{Added}
+use Rattle.site.specs.declared.AreaAnswer.{AreaAnswer}
+use Rattle.site.specs.declared.AreaAnswer.the-variants as area
+use Rattle.site.specs.Parts.{mostParts, areaOf, emptySite}
+use Rattle.site.specs.Judging.{fits, hasRoom, judged, afterJudging}
+use Rattle.site.specs.Adding.{kept, enlarged, addedTo}
+use Rattle.site.specs.Promises.{Sized}
+use Rattle.site.proofs.Promises.{empty-fine, holds-to}
+use Rattle.text.specs.Pieces.{lineFeed, startOf, endOf}
+use Rattle.text.proofs.Between.{piece-bytes, last-ends, empty-starts}
+use Rattle.job.specs.declared.Job.{Job}
+use Rattle.job.specs.declared.HeadRead.{HeadRead}
+use Rattle.job.specs.declared.HeadRead.the-variants.{Fine, Bad}
+use Rattle.job.specs.declared.Reading.{Reading}
+use Rattle.job.specs.declared.JobAnswer.the-variants.{Granted, Refused}
+use Rattle.job.specs.declared.AreaLine.{AreaLine}
+use Rattle.job.specs.declared.AreaLine.the-variants.{Is, Malformed}
+use Rattle.job.specs.Lines.{linesOf}
+use Rattle.job.specs.Head.{headOf}
+use Rattle.job.specs.Areas.{areaIn, addedLine, refusedAt, endedAt, areasFrom}
+use Rattle.job.specs.Reading.{mostBytes, headLines, behindHead, readingOf}
+use Rattle.job.specs.Fault.{atTheEnd, lineSpan, faultIn, faultOf}
+use Rattle.job.specs.Promises.{Beside, SiteBeside, OffendingLine, MissingLine}
+
+abbrev Sound : Reading → Type 0
+Sound r = Beside (r .answer) (r .site)
+
+-- an add keeps the 32 places of a record
+sized-added : (s : Site) (total : ℕ) (p : SubArea) → Sized s → Sized (addedTo s total p .site)
+unfolding addedTo
+sized-added s total p z = at (fits p) (ltb (s .count) mostParts) (hasRoom total (areaOf p))
+  where
+    at : (b c d : Bool) → Sized (cond b (cond c (cond d (record { answer = area.Granted (record { 0 = total + areaOf p }); site = enlarged s p }) (kept s TotalAreaPassed)) (kept s SiteFull)) (kept s UnfitSubArea) .site)
+    at true true true = length-set (s .parts) (s .count) p ∙ z
+    at true true false = z
+    at true false d = z
+    at false c d = z
+
+-- the areas end at a site that is judged fine, or are refused
+ended-sound : (job : Job) (rest : List ℕ) (k : ℕ) (s : Site) (total : Area) → judged s ≡ area.Granted total → Sound (endedAt job rest k s)
+ended-sound job rest k s total j = at (eqb (length rest) 0 && leb 1 (s .count))
+  where
+    at : (b : Bool) → Sound (cond b (record { answer = Granted job; site = s }) (refusedAt k MalformedText))
+    at true = (total, j)
+    at false = refl
+
+step-sound : (job : Job) (ls : List (List ℕ)) (k : ℕ) (s : Site) (total : Area) (found : AreaLine)
+    → Sized s
+    → judged s ≡ area.Granted total
+    → ((t : Site) (more : Area) → Sized t → judged t ≡ area.Granted more → Sound (areasFrom job ls (k + 1) t (more .0)))
+    → Sound (afterJudging (refusedAt k) (λ more. areasFrom job ls (k + 1) (addedLine s (total .0) found .site) more) (addedLine s (total .0) found .answer))
+unfolding addedLine
+step-sound job ls k s total Malformed z j later = refl
+step-sound job ls k s total (Is p) z j later = told (addedTo s (total .0) p .answer) refl
+  where
+    told : (x : AreaAnswer) → addedTo s (total .0) p .answer ≡ x → Sound (afterJudging (refusedAt k) (λ more. areasFrom job ls (k + 1) (addedTo s (total .0) p .site) more) x)
+    told (area.Granted more) e =
+        later (addedTo s (total .0) p .site) more (sized-added s (total .0) p z) (holds-to s p total more z j e .1)
+    told (area.Refused why) e = refl
+
+areas-sound : (job : Job) (ls : List (List ℕ)) (k : ℕ) (s : Site) (total : Area) → Sized s → judged s ≡ area.Granted total → Sound (areasFrom job ls k s (total .0))
+unfolding areasFrom
+areas-sound job [] k s total z j = ended-sound job [] k s total j
+areas-sound job (rest ∷ []) k s total z j = ended-sound job rest k s total j
+areas-sound job (line ∷ next ∷ others) k s total z j =
+    step-sound job (next ∷ others) k s total (areaIn (line ∷ next ∷ others)) z j
+    (λ t more y i. areas-sound job (next ∷ others) (k + 1) t more y i)
+
+head-sound : (lines : List (List ℕ)) (h : HeadRead) → Sound (behindHead h lines)
+unfolding behindHead
+head-sound lines (Bad k) = refl
+head-sound lines (Fine job) = areas-sound job (drop headLines lines) 7 emptySite (record { 0 = 0 }) refl empty-fine
+
+pub site-beside : SiteBeside
+unfolding readingOf
+site-beside s = at (ltb mostBytes (length s))
+  where
+    at : (b : Bool) → Sound (cond b (refusedAt 0 MalformedText) (behindHead (headOf (linesOf s)) (linesOf s)))
+    at true = refl
+    at false = head-sound (linesOf s) (headOf (linesOf s))
+
+-- refusal 1 in a line points to that line
+fault-span : (s : List ℕ) (k : ℕ) → readingOf s .answer ≡ Refused MalformedText (suc k) → faultOf s ≡ (startOf lineFeed s k, endOf lineFeed s k)
+unfolding faultIn lineSpan
+fault-span s k e = rw e
+
+pub offending-line : OffendingLine
+offending-line s k e = rw (fault-span s k e) (piece-bytes lineFeed s k)
+
+pub missing-line : MissingLine
+missing-line s k e last empty =
+    let ends = last-ends lineFeed s k last in
+    let starts = empty-starts lineFeed s k empty in
+    fault-span s k e ∙ (λ i. ((starts ∙ ends) i, ends i))

@@ -1,0 +1,34 @@
+-- 01, "The numbers given back": refusal 1 also returns the offending line as that part of the caller's own text without its LF.
+-- Assumes nothing.
+use Prim.Native.Nat.{ℕ, zero, suc}
+use mathlib.Core.Bool.{cond}
+use mathlib.Core.List.{List}
+use lib.ListN.{length}
+use lib.Dec.{eqb}
+use Rattle.refusal.specs.declared.Refusal.the-variants.{MalformedText}
+use Rattle.refusal.specs.Refusal.{numberOf}
+use Rattle.text.specs.Pieces.{lineFeed, startOf, endOf}
+use Rattle.job.specs.declared.JobAnswer.{JobAnswer}
+use Rattle.job.specs.declared.JobAnswer.the-variants.{Granted, Refused}
+use Rattle.job.specs.Reading.{readingOf}
+
+-- the places at which a part starts and stops
+abbrev pub Span : Type 0
+Span = ℕ × ℕ
+
+-- an empty part at the end of the text
+abbrev pub atTheEnd : List ℕ → Span
+atTheEnd s = (length s, length s)
+
+-- Line k of a text, counted from 1: it is empty, at the end, where the line is missing. Line 0 is that of a text that is too long: an empty part at the start.
+unfoldable pub lineSpan : List ℕ → ℕ → Span
+lineSpan s zero = (0, 0)
+lineSpan s (suc k) = (startOf lineFeed s k, endOf lineFeed s k)
+
+-- the offending line under refusal 1
+unfoldable pub faultIn : List ℕ → JobAnswer → Span
+faultIn s (Granted job) = atTheEnd s
+faultIn s (Refused why k) = cond (eqb (numberOf why) (numberOf MalformedText)) (lineSpan s k) (atTheEnd s)
+
+abbrev pub faultOf : List ℕ → Span
+faultOf s = faultIn s (readingOf s .answer)

@@ -1,0 +1,119 @@
+// 01, "Job and answer text": the job text read, and the offending part of one that is refused 1.
+ghost use mathlib.Core.Path.{_≡_};
+ghost use lib.ListN.{length};
+ghost use Rattle.text.specs.Part.{Part};
+ghost use Rattle.job.specs.Areas.{refusedAt};
+ghost use Rattle.job.specs.Reading.{readingOf};
+ghost use Rattle.job.specs.Fault.{faultIn, faultOf};
+use curve::Mode;
+use refusal::Refusal;
+use site::Site;
+use site::SubArea;
+use units::Nutrient;
+use units::Rate;
+
+mod areas;
+mod head;
+mod lines;
+pub mod words;
+
+pub enum Task {
+    Load,
+    Credit,
+    Size,
+}
+
+// What the first six lines of a job say.
+pub struct Job {
+    pub practice: u64,
+    pub nutrient: Nutrient,
+    pub mode: Mode,
+    pub rate: Rate,
+    pub task: Task,
+    // 0 for load, a volume for credit, a target percent for size.
+    pub amount: u64,
+}
+
+// What reading the first six lines finds: the job, or the number of the first bad line.
+enum HeadRead {
+    Fine(Job),
+    Bad(usize),
+}
+
+// What reading an area line finds.
+enum AreaLine {
+    Is(SubArea),
+    Malformed,
+}
+
+// The job, or the refusal with its line, counted from 1.
+pub enum JobAnswer {
+    Granted(Job),
+    Refused { why: Refusal, line: usize },
+}
+
+// A job text read: the site stands beside the answer, and is empty beside a refusal.
+pub struct Reading {
+    pub answer: JobAnswer,
+    pub site: Site,
+}
+
+// The longest job text, in bytes.
+pub const MOST_BYTES: usize = 4096;
+
+const HEAD_LINES: usize = 6;
+
+// A refused reading.
+fn refused(line: usize, why: Refusal) -> Reading
+    ensures { λ r. ⌜ r ≡ refusedAt line why ⌝ }
+{
+    Reading {
+        answer: JobAnswer::Refused { why, line },
+        site: site::empty(),
+    }
+}
+
+// The job and the site that a text says, or the refusal with its line.
+pub fn read(text: &[u8]) -> Reading
+    ensures { λ r. ⌜ r ≡ readingOf (now (text .entry)) ⌝ }
+{
+    if MOST_BYTES < text.len() {
+        return refused(0, Refusal::MalformedText);
+    }
+    let found = head::read_head(text);
+    match found {
+        HeadRead::Bad(line) => refused(line, Refusal::MalformedText),
+        HeadRead::Fine(job) => areas::read_areas(job, text::from_piece(text, b'\n', HEAD_LINES)),
+    }
+}
+
+// The offending line of a text that is refused 1, without its line feed; an empty part at the end of any other text.
+pub fn fault(text: &[u8]) -> &[u8]
+    ensures { λ r. ⌜ Part (text .entry) (faultOf (now (text .entry)) .0) (faultOf (now (text .entry)) .1) r ⌝ }
+{
+    let found = read(text);
+    let answer = found.answer;
+    match answer {
+        JobAnswer::Granted(_) => at_the_end(text),
+        JobAnswer::Refused { why, line } => offending(text, why, line),
+    }
+}
+
+fn at_the_end(text: &[u8]) -> &[u8]
+    ensures { λ r. ⌜ Part (text .entry) (length (now (text .entry))) (length (now (text .entry))) r ⌝ }
+{
+    text::part(text, text.len(), text.len())
+}
+
+// The offending line of a refused text.
+fn offending(text: &[u8], why: Refusal, line: usize) -> &[u8]
+    ensures { λ r. ⌜ Part (text .entry) (faultIn (now (text .entry)) (JobAnswer.Refused why line) .0) (faultIn (now (text .entry)) (JobAnswer.Refused why line) .1) r ⌝ }
+{
+    if refusal::number(why) != 1 {
+        return at_the_end(text);
+    }
+    if line < 1 {
+        return text::part(text, 0, 0);
+    }
+    text::piece(text, b'\n', line - 1)
+}
