@@ -39,6 +39,13 @@ def listed(numbers):
     return "".join(underscored(n) + " ∷ " for n in numbers)
 
 
+def constant(name, kind, values):
+    """A constant as rt fmt lays it out: on one line where it fits."""
+    opened = f"pub const {name}: [{kind}; {len(values)}] = ["
+    line = opened + ", ".join(map(str, values)) + "];"
+    return [line] if len(line) <= 100 else [opened] + [f"    {n}," for n in values] + ["];"]
+
+
 def specs(document):
     out = [
         '-- 01, "Practices covered": the columns of Tables 3-6 to 3-25 but 3-22. Made by tools/published.py from source document 001.',
@@ -56,18 +63,14 @@ def specs(document):
         for practice, (name, _) in enumerate(PRACTICES):
             kept = columns(document, practice, nutrient)
             tables = ", ".join(f"3-{number}" for number, _, _ in kept)
-            out += [
-                "",
-                f"-- {name}, {nutrient}: Table{'s' if len(kept) > 1 else ''} {tables}",
-                f"abbrev pub {name}{nutrient} : List ℕ × List ℕ",
-                f"{name}{nutrient} =",
-                f"    ({listed([rate for _, rate, _ in kept])}[],",
-            ]
-            out += [f"    {listed(percents).rstrip()}" for _, _, percents in kept]
-            out += ["    [])"]
+            out += ["", f"-- {name}, {nutrient}: Table{'s' if len(kept) > 1 else ''} {tables}", f"abbrev pub {name}{nutrient} : List ℕ", f"{name}{nutrient} ="]
+            out += [f"    {listed(percents).rstrip()}" for _, _, percents in kept] + ["    []"]
     out += ["", "-- the sheets by practice number: rates, and percents rate by rate", "abbrev pub sheets : Nutrient → List (List ℕ × List ℕ)"]
     for nutrient in NUTRIENTS:
-        out += [f"sheets {nutrient} = " + " ∷ ".join(name + nutrient for name, _ in PRACTICES) + " ∷ []"]
+        out += [f"sheets {nutrient} ="]
+        for practice, (name, _) in enumerate(PRACTICES):
+            out += [f"    ({listed([rate for _, rate, _ in columns(document, practice, nutrient)])}[], {name}{nutrient}) ∷"]
+        out += ["    []"]
     return out
 
 
@@ -79,18 +82,17 @@ def source(document):
             starts.append(len(numbers))
             counts.append(len(kept))
             numbers += [rate for _, rate, _ in kept] + [p for _, _, percents in kept for p in percents]
-    plain = lambda values: ", ".join(map(str, values))
     return [
         "// Made by tools/published.py from source document 001.",
         "",
         "// The depths of every table; then, for P and for N, each practice's rates and its percents, rate by rate.",
-        f"pub const SHEETS: [u64; {len(numbers)}] = [{plain(numbers)}];",
+        *constant("SHEETS", "u64", numbers),
         "",
         "// Where the rates of each practice start, for P and then for N.",
-        f"pub const STARTS: [usize; {len(starts)}] = [{plain(starts)}];",
+        *constant("STARTS", "usize", starts),
         "",
         "// How many rates it has.",
-        f"pub const COUNTS: [usize; {len(counts)}] = [{plain(counts)}];",
+        *constant("COUNTS", "usize", counts),
     ]
 
 

@@ -7,3 +7,4 @@ pub mod Rising
 pub mod Answering
 pub mod Faster
 pub mod Promises
+pub mod Sentences
