@@ -72,7 +72,7 @@ pub rate-rated : (rs : List ℕ) {m r : ℕ} → m ≡ fastestTaken rs → 1 ≤
 rate-rated rs is n h l = record { some-rates = n; slowest = l; taken = le-trans h (rw is (taken-most rs)) }
 
 -- An admitted rate is one that the sheet takes, with its curves.
-chosen : (b d : Bool) (c e : Curves) (p q : Refusal)
+pub chosen : (b d : Bool) (c e : Curves) (p q : Refusal)
     → cond b (cond d (admission.Admitted c) (admission.Refused p)) (admission.Refused q) ≡ admission.Admitted e → (b ≡ true) × (d ≡ true) × (c ≡ e)
 chosen true true c e p q h = (refl, refl, cc)
 chosen true false c e p q h =

@@ -8,3 +8,4 @@ pub mod Answering
 pub mod Faster
 pub mod Promises
 pub mod Sentences
+pub mod Granting

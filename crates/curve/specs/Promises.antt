@@ -4,12 +4,12 @@ use Prim.Native.Nat.{ℕ, _+_, _*_, _≤_, _<_}
 use mathlib.Core.List.{List}
 use mathlib.Core.Path.{_≡_}
 use lib.ListN.{length, getD}
-use Rattle.units.specs.Limits.{mostPercent}
+use Rattle.units.specs.Limits.{mostPercent, highestDepth}
 use Rattle.sheet.specs.declared.Verdict.the-variants.{Fine}
 use Rattle.sheet.specs.Sheet.{verdictOf}
 use Rattle.curve.specs.declared.Mode.{Mode}
-use Rattle.curve.specs.Curve.{percentOf}
-use Rattle.curve.specs.Answers.{fastestTaken}
+use Rattle.curve.specs.Curve.{curvesOf, percentOf}
+use Rattle.curve.specs.Answers.{fastestTaken, leastDepth}
 
 -- neither 5, 6 nor 7 is given
 pub record Granted (ds rs ps : List ℕ) (r : ℕ) : Type 0 where
@@ -36,3 +36,19 @@ abbrev pub NeverFallsWithRate : Type 0
 NeverFallsWithRate =
     (ds rs ps : List ℕ) → FasterIsNoLess ds rs ps → (mode : Mode) (r q d : ℕ) → Granted ds rs ps r → Granted ds rs ps q → r ≤ q
     → percentOf ds rs ps mode r d ≤ percentOf ds rs ps mode q d
+
+-- the depth that is found for a target
+abbrev pub leastOf : List ℕ → List ℕ → List ℕ → Mode → ℕ → ℕ → ℕ
+leastOf ds rs ps mode r target = leastDepth ds ps (curvesOf rs mode r) target
+
+-- what 01 says of it: it is a grid depth whose percent is at least the target, and no lower depth has such a percent
+pub record IsLeast (percent : ℕ → ℕ) (target d : ℕ) : Type 0 where
+  pub on-grid : d ≤ highestDepth
+  pub reaches : target ≤ percent d
+  pub least : (e : ℕ) → target ≤ percent e → d ≤ e
+
+-- Where the target is not above the percent at depth 200, the depth that is found is the least.
+abbrev pub FindsTheLeast : Type 0
+FindsTheLeast =
+    (ds rs ps : List ℕ) (mode : Mode) (r target : ℕ) → Granted ds rs ps r → target ≤ percentOf ds rs ps mode r highestDepth
+    → IsLeast (percentOf ds rs ps mode r) target (leastOf ds rs ps mode r target)
