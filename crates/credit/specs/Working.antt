@@ -3,7 +3,10 @@
 use Prim.Native.Nat.{ℕ, _≤_}
 use mathlib.Core.List.{List}
 use Rattle.units.specs.declared.Area.{Area}
-use Rattle.units.specs.Limits.{largest, mostPercent}
+use Rattle.units.specs.declared.Depth.{Depth}
+use Rattle.units.specs.declared.DepthAnswer.{DepthAnswer}
+use Rattle.units.specs.declared.DepthAnswer.the-variants.{Granted, Refused}
+use Rattle.units.specs.Limits.{largest, mostPercent, lowestDepth}
 use Rattle.volume.specs.Areas.{Six}
 
 -- the six areas of a site, with a load and a percent within their limits
@@ -11,3 +14,8 @@ pub record Work (xs : List Area) (load percent : ℕ) : Type 0 where
   pub areas : Six xs
   pub fits : load ≤ largest
   pub whole : percent ≤ mostPercent
+
+-- the depth of an answer, 0 where it is refused
+abbrev pub depthIn : DepthAnswer → Depth
+depthIn (Granted d) = d
+depthIn (Refused why) = record { 0 = lowestDepth }

@@ -1,9 +1,31 @@
 // 01, "Crediting" and "Sizing": on a lent sheet and on a published practice.
+ghost use mathlib.Core.Path.{_≡_};
+ghost use Prim.Native.Nat.{_≤_};
+ghost use mathlib.Core.Bool.{Bool};
+ghost use Rattle.units.specs.Limits.{largest, mostPercent, highestDepth};
+ghost use Rattle.volume.specs.Areas.{areaAt, volumeFrom, Six};
+ghost use Rattle.volume.specs.Answers.{depthOn};
+ghost use Rattle.credit.specs.Credit.{figuresOf, creditBy, sizedAt};
+ghost use Rattle.credit.specs.Answers.{onSheet};
+ghost use Rattle.credit.specs.Working.{Work, depthIn};
+use curve::Mode;
+use curve::PercentAnswer;
+use curve::Reached;
+use loads::LoadAnswer;
+use published::Place;
 use refusal::Refusal;
+use site::AreaAnswer;
+use site::Site;
+use units::Area;
 use units::Depth;
+use units::DepthAnswer;
 use units::Load;
+use units::Nutrient;
 use units::Percent;
+use units::Rate;
 use units::Volume;
+use volume::Areas;
+use volume::VolumeAnswer;
 
 // What is asked of a site: the credit of a volume, or the size of a target.
 pub enum Wanted {
@@ -25,4 +47,153 @@ pub enum CreditAnswer {
     // 5, with the list and the place of the fault.
     BadSheet { list: u64, place: usize },
     Refused(Refusal),
+}
+
+// The figures, with the removed load worked out from the percent.
+fn figures_of(load: Load, depth: Depth, percent: Percent, volume: Volume) -> Figures
+    requires { ⌜ (load .0 ≤ largest) × (percent .0 ≤ mostPercent) ⌝ }
+    ensures { λ r. ⌜ r ≡ figuresOf (load .0) (depth .0) (percent .0) (volume .0) ⌝ }
+{
+    let found = loads::removed(load, percent);
+    match found {
+        LoadAnswer::Granted(removed) => Figures {
+            load,
+            depth,
+            percent,
+            volume,
+            removed,
+        },
+        LoadAnswer::Refused(_) => Figures {
+            load,
+            depth,
+            percent,
+            volume,
+            removed: Load(0),
+        },
+    }
+}
+
+// Tries 8, then 9 and 15, which the depth of the volume has told, and gives the figures.
+fn credited(
+    areas: Areas,
+    load: Load,
+    reached: DepthAnswer,
+    percent: Percent,
+    volume: Volume,
+) -> CreditAnswer
+    requires { ⌜ Work (areas .of) (load .0) (percent .0) ⌝ }
+    requires { ⌜ reached ≡ depthOn (areas .of) volume ⌝ }
+    ensures { λ r. ⌜ r ≡ creditBy (load .0) (areaAt (areas .of) 0) (volumeFrom (areas .of)) (λ d. percent .0) (volume .0) ⌝ }
+{
+    let of = areas.of;
+    let impervious = of[0];
+    if impervious.0 < 1 {
+        return CreditAnswer::Refused(Refusal::NoImperviousArea);
+    }
+    match reached {
+        DepthAnswer::Granted(depth) => CreditAnswer::Granted(figures_of(
+            load,
+            depth,
+            percent,
+            volume,
+        )),
+        DepthAnswer::Refused(why) => CreditAnswer::Refused(why),
+    }
+}
+
+// Tries 8, 9, 15 and, where no depth reaches the target, 10, and gives the figures.
+fn sized(
+    areas: Areas,
+    load: Load,
+    target: Percent,
+    depth: Depth,
+    percent: Percent,
+    reached: bool,
+) -> CreditAnswer
+    requires { ⌜ Work (areas .of) (load .0) (percent .0) ⌝ }
+    requires { ⌜ depth .0 ≤ highestDepth ⌝ }
+    ensures { λ r. ⌜ r ≡ sizedAt (load .0) (areaAt (areas .of) 0) (volumeFrom (areas .of)) (target .0) (depth .0) (percent .0) reached ⌝ }
+{
+    let of = areas.of;
+    let impervious = of[0];
+    if impervious.0 < 1 {
+        return CreditAnswer::Refused(Refusal::NoImperviousArea);
+    }
+    if units::MOST_PERCENT < target.0 {
+        return CreditAnswer::Refused(Refusal::AmountOutOfRange);
+    }
+    let found = volume::volume_of(areas, depth);
+    match found {
+        VolumeAnswer::Granted(volume) => {
+            if reached {
+                return CreditAnswer::Granted(figures_of(load, depth, percent, volume));
+            }
+            CreditAnswer::Refused(Refusal::TargetUnreachable)
+        }
+        VolumeAnswer::Refused(why) => CreditAnswer::Refused(why),
+    }
+}
+
+// The depth of an answer; 0 where it is refused.
+fn depth_in(reached: DepthAnswer) -> Depth
+    ensures { λ r. ⌜ r ≡ depthIn reached ⌝ }
+{
+    match reached {
+        DepthAnswer::Granted(depth) => depth,
+        DepthAnswer::Refused(_) => Depth(Depth::LOWEST),
+    }
+}
+
+// Crediting on a sheet: 5, 6 and 7 come first, by the percent at the depth of the volume.
+fn credit_by(
+    areas: Areas,
+    load: Load,
+    depths: &[u64],
+    rates: &[u64],
+    percents: &[u64],
+    mode: Mode,
+    rate: Rate,
+    volume: Volume,
+) -> CreditAnswer
+    requires { ⌜ Work (areas .of) (load .0) 0 ⌝ }
+    ensures { λ r. ⌜ r ≡ onSheet (Wanted.Credit volume) (load .0) (areaAt (areas .of) 0) (volumeFrom (areas .of)) (now (depths .entry)) (now (rates .entry)) (now (percents .entry)) mode (rate .0) ⌝ }
+{
+    let reached = volume::depth_of(areas, volume);
+    let depth = depth_in(reached);
+    let found = curve::percent(depths, rates, percents, mode, rate, depth);
+    match found {
+        PercentAnswer::Granted(percent) => credited(areas, load, reached, percent, volume),
+        PercentAnswer::BadSheet { list, place } => CreditAnswer::BadSheet { list, place },
+        PercentAnswer::Refused(why) => CreditAnswer::Refused(why),
+    }
+}
+
+// Sizing on a sheet: 5, 6 and 7 come first, by the least depth that reaches the target.
+fn size_by(
+    areas: Areas,
+    load: Load,
+    depths: &[u64],
+    rates: &[u64],
+    percents: &[u64],
+    mode: Mode,
+    rate: Rate,
+    target: Percent,
+) -> CreditAnswer
+    requires { ⌜ Work (areas .of) (load .0) 0 ⌝ }
+    ensures { λ r. ⌜ r ≡ onSheet (Wanted.Size target) (load .0) (areaAt (areas .of) 0) (volumeFrom (areas .of)) (now (depths .entry)) (now (rates .entry)) (now (percents .entry)) mode (rate .0) ⌝ }
+{
+    let found = curve::reach(depths, rates, percents, mode, rate, target);
+    match found {
+        Reached::Found(depth, percent) => sized(areas, load, target, depth, percent, true),
+        Reached::Short => sized(
+            areas,
+            load,
+            target,
+            Depth(Depth::HIGHEST),
+            Percent(0),
+            false,
+        ),
+        Reached::BadSheet { list, place } => CreditAnswer::BadSheet { list, place },
+        Reached::Refused(why) => CreditAnswer::Refused(why),
+    }
 }

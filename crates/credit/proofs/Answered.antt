@@ -1,0 +1,269 @@
+-- Laws of crediting and sizing on a sheet: what the percent at a depth, or the least depth of a target, tells of 5, 6 and 7.
+-- Assumes nothing.
+use Prim.Native.Nat.{ℕ, suc, _≤_, _<_}
+use mathlib.Core.Bool.{Bool, true, false, cond}
+use mathlib.Core.List.{List, [], _∷_}
+use mathlib.Core.Path.{_≡_, refl, sym, _∙_, ap, subst}
+use native.Mathlib.Omega.{arith}
+use lib.Dec.{leb, ltb}
+use borrow.Author.Tests.{le-leb, leb-true, le-ltb}
+use Rattle.laws.specs.First.{first}
+use Rattle.laws.specs.Turn.{inTurn}
+use Rattle.laws.proofs.First.{first-le, fails-so-below}
+use Rattle.refusal.specs.declared.Refusal.{Refusal}
+use Rattle.refusal.specs.declared.Refusal.the-variants.{NoImperviousArea, AmountOutOfRange, PastLargest, TargetUnreachable, TotalAreaPassed}
+use Rattle.units.specs.declared.Area.{Area}
+use Rattle.units.specs.declared.Depth.{Depth}
+use Rattle.units.specs.declared.Percent.{Percent}
+use Rattle.units.specs.declared.Volume.{Volume}
+use Rattle.units.specs.declared.DepthAnswer.{DepthAnswer}
+use Rattle.units.specs.declared.DepthAnswer.the-variants as depth
+use Rattle.units.specs.Limits.{mostArea, largest, mostPercent, highestDepth, gridDepths}
+use Rattle.volume.specs.Areas.{areaAt, totalOf, withinLimit, volumeFrom, notAbove, Six}
+use Rattle.volume.specs.Answers.{depthOn}
+use Rattle.curve.specs.declared.Mode.{Mode}
+use Rattle.curve.specs.declared.Curves.{Curves}
+use Rattle.curve.specs.declared.Admission.{Admission}
+use Rattle.curve.specs.declared.Admission.the-variants as admission
+use Rattle.curve.specs.declared.ExactAnswer.{ExactAnswer}
+use Rattle.curve.specs.declared.PercentAnswer.{PercentAnswer}
+use Rattle.curve.specs.declared.PercentAnswer.the-variants as percent
+use Rattle.curve.specs.declared.Reached.{Reached}
+use Rattle.curve.specs.declared.Reached.the-variants as reach
+use Rattle.curve.specs.Curve.{percentAt}
+use Rattle.curve.specs.Answers as curve
+use Rattle.curve.proofs.Answering.{admitted-ready}
+use Rattle.curve.proofs.Rising.{percent-most}
+use Rattle.credit.specs.declared.Wanted.the-variants.{Credit, Size}
+use Rattle.credit.specs.declared.CreditAnswer.{CreditAnswer}
+use Rattle.credit.specs.declared.CreditAnswer.the-variants.{Granted, BadSheet, Refused}
+use Rattle.credit.specs.Credit.{figuresOf, depthWithin, creditBy, depthReaching, sizedAt, sizeBy}
+use Rattle.credit.specs.Answers.{onCurves, worked, onSheet}
+use Rattle.credit.specs.Working.{Work, depthIn}
+
+-- The depth of an answer is on the grid.
+kept-on-grid : (a b c : Bool) (x : Depth) → x .0 ≤ highestDepth
+    → depthIn (inTurn depth.Refused (depth.Granted x) ((a, TotalAreaPassed) ∷ (b, AmountOutOfRange) ∷ (c, PastLargest) ∷ [])) .0 ≤ highestDepth
+kept-on-grid true true true x h = h
+kept-on-grid true true false x h = omega arith
+kept-on-grid true false c x h = omega arith
+kept-on-grid false b c x h = omega arith
+
+depth-on-grid : (xs : List Area) (v : Volume) → depthIn (depthOn xs v) .0 ≤ highestDepth
+unfolding depthOn
+depth-on-grid xs v =
+    let l = first-le (notAbove xs (v .0)) gridDepths in
+    kept-on-grid (withinLimit xs) (leb (v .0) largest) (leb (volumeFrom xs highestDepth) largest) (record { 0 = depthWithin (volumeFrom xs) (v .0) }) (omega arith)
+
+-- Crediting looks at the percent only where 9 and 15 do not arise.
+turn-same : (i b m c : Bool) {x y : CreditAnswer} → (b ≡ true → c ≡ true → x ≡ y)
+    → inTurn Refused x ((i, NoImperviousArea) ∷ (b, AmountOutOfRange) ∷ (m, PastLargest) ∷ (c, PastLargest) ∷ [])
+    ≡ inTurn Refused y ((i, NoImperviousArea) ∷ (b, AmountOutOfRange) ∷ (m, PastLargest) ∷ (c, PastLargest) ∷ [])
+turn-same false b m c e = refl
+turn-same true false m c e = refl
+turn-same true true false c e = refl
+turn-same true true true false e = refl
+turn-same true true true true e = e refl refl
+
+-- Where 9 and 15 do not arise, the depth of the answer is the depth of the volume.
+depth-told : (xs : List Area) (v : Volume) → Six xs → leb (v .0) largest ≡ true → leb (volumeFrom xs highestDepth) largest ≡ true
+    → depthIn (depthOn xs v) .0 ≡ depthWithin (volumeFrom xs) (v .0)
+unfolding depthOn
+depth-told xs v s b c = simp (le-leb (totalOf xs) mostArea (s .small), b, c)
+
+credit-same : (xs : List Area) (l : ℕ) (v : Volume) (p : ℕ) (f : ℕ → ℕ) → Six xs → p ≡ f (depthIn (depthOn xs v) .0)
+    → creditBy l (areaAt xs 0) (volumeFrom xs) (λ d. p) (v .0) ≡ creditBy l (areaAt xs 0) (volumeFrom xs) f (v .0)
+unfolding creditBy
+credit-same xs l v p f s e =
+    turn-same (ltb 0 (areaAt xs 0)) (leb (v .0) largest) (leb l largest) (leb (volumeFrom xs highestDepth) largest)
+    (λ b c. ap (λ (n : ℕ). Granted (figuresOf l (depthWithin (volumeFrom xs) (v .0)) n (v .0))) (e ∙ ap f (depth-told xs v s b c)))
+
+-- The percent at a grid depth, by what 5, 6 and 7 leave.
+abbrev percentBy : List ℕ → List ℕ → ℕ → Admission → PercentAnswer
+percentBy ds ps d (admission.Admitted c) = percent.Granted (record { 0 = percentAt ds ps c d })
+percentBy ds ps d (admission.BadSheet list place) = percent.BadSheet list place
+percentBy ds ps d (admission.Refused why) = percent.Refused why
+
+percent-by : (ds ps : List ℕ) (d : ℕ) (a : Admission) → d ≤ highestDepth → curve.roundedAnswer (curve.exactFrom ds ps d a) ≡ percentBy ds ps d a
+percent-by ds ps d (admission.Admitted c) h = simp (le-leb d highestDepth h)
+percent-by ds ps d (admission.BadSheet list place) h = refl
+percent-by ds ps d (admission.Refused why) h = refl
+
+module _ (onward : Curves → CreditAnswer) (ds ps : List ℕ) (d : ℕ) where
+  bad-told : (a : Admission) (list place : ℕ) → percentBy ds ps d a ≡ percent.BadSheet list place → BadSheet list place ≡ onCurves onward a
+  bad-told (admission.Admitted c) list place e = cc
+  bad-told (admission.BadSheet l q) list place e = cc
+  bad-told (admission.Refused why) list place e = cc
+
+  refused-told : (a : Admission) (why : Refusal) → percentBy ds ps d a ≡ percent.Refused why → Refused why ≡ onCurves onward a
+  refused-told (admission.Admitted c) why e = cc
+  refused-told (admission.BadSheet l q) why e = cc
+  refused-told (admission.Refused w) why e = cc
+
+module _ (xs : List Area) (l : ℕ) (v : Volume) (ds rs ps : List ℕ) (mode : Mode) (r : ℕ) (reached : DepthAnswer) (d : Depth) (found : PercentAnswer)
+    (w : Work xs l 0) (e : reached ≡ depthOn xs v) (g : d ≡ depthIn reached) (f : found ≡ curve.percentAnswer ds rs ps mode r (d .0)) where
+  told : percentBy ds ps (depthIn (depthOn xs v) .0) (curve.admissionOf ds rs ps mode r) ≡ found
+  unfolding curve.exactAnswer
+  told =
+      sym
+      (f ∙ ap (λ (k : Depth). curve.percentAnswer ds rs ps mode r (k .0)) (g ∙ ap depthIn e)
+      ∙ percent-by ds ps (depthIn (depthOn xs v) .0) (curve.admissionOf ds rs ps mode r) (depth-on-grid xs v))
+
+  pub credit-bad : (list place : ℕ) → found ≡ percent.BadSheet list place
+      → BadSheet list place ≡ onSheet (Credit v) l (areaAt xs 0) (volumeFrom xs) ds rs ps mode r
+  unfolding onSheet
+  credit-bad list place h = bad-told _ ds ps _ (curve.admissionOf ds rs ps mode r) list place (told ∙ h)
+
+  pub credit-stopped : (why : Refusal) → found ≡ percent.Refused why → Refused why ≡ onSheet (Credit v) l (areaAt xs 0) (volumeFrom xs) ds rs ps mode r
+  unfolding onSheet
+  credit-stopped why h = refused-told _ ds ps _ (curve.admissionOf ds rs ps mode r) why (told ∙ h)
+
+  granted-by : (a : Admission) (p : Percent) → percentBy ds ps (depthIn (depthOn xs v) .0) a ≡ percent.Granted p
+      → creditBy l (areaAt xs 0) (volumeFrom xs) (λ d. p .0) (v .0)
+      ≡ onCurves (λ c. worked (Credit v) l (areaAt xs 0) (volumeFrom xs) (percentAt ds ps c)) a
+  granted-by (admission.Admitted c) p h =
+      credit-same xs l v (p .0) (percentAt ds ps c) (w .areas) (sym (ap (λ (x : PercentAnswer). curve.given x .1) h))
+  granted-by (admission.BadSheet list place) p h = cc
+  granted-by (admission.Refused why) p h = cc
+
+  pub credit-worked : (p : Percent) (answer : CreditAnswer) → found ≡ percent.Granted p
+      → answer ≡ creditBy l (areaAt xs 0) (volumeFrom xs) (λ d. p .0) (v .0)
+      → answer ≡ onSheet (Credit v) l (areaAt xs 0) (volumeFrom xs) ds rs ps mode r
+  unfolding onSheet
+  credit-worked p answer h k = k ∙ granted-by (curve.admissionOf ds rs ps mode r) p (told ∙ h)
+
+  most-by : (a : Admission) (p : Percent) → a ≡ curve.admissionOf ds rs ps mode r → percentBy ds ps (depthIn (depthOn xs v) .0) a ≡ percent.Granted p → p .0 ≤ mostPercent
+  most-by (admission.Admitted c) p k h =
+      subst (λ (n : ℕ). n ≤ mostPercent) (ap (λ (x : PercentAnswer). curve.given x .1) h)
+      (percent-most (admitted-ready ds rs ps mode r k refl) (depthIn (depthOn xs v) .0))
+  most-by (admission.BadSheet list place) p k h = let z : _≡_ {A = ℕ} 0 1 = cc in absurd (omega arith)
+  most-by (admission.Refused why) p k h = let z : _≡_ {A = ℕ} 0 1 = cc in absurd (omega arith)
+
+  pub credit-ready : (p : Percent) → found ≡ percent.Granted p → Work xs l (p .0)
+  credit-ready p h =
+      record { areas = w .areas; fits = w .fits; whole = most-by (curve.admissionOf ds rs ps mode r) p refl (told ∙ h) }
+
+-- Where the target is not reached, the depth and the percent change nothing.
+unreached-same : (i b m c : Bool) (x y : CreditAnswer)
+    → inTurn Refused x ((i, NoImperviousArea) ∷ (b, AmountOutOfRange) ∷ (m, PastLargest) ∷ (c, PastLargest) ∷ (false, TargetUnreachable) ∷ [])
+    ≡ inTurn Refused y ((i, NoImperviousArea) ∷ (b, AmountOutOfRange) ∷ (m, PastLargest) ∷ (c, PastLargest) ∷ (false, TargetUnreachable) ∷ [])
+unreached-same false b m c x y = refl
+unreached-same true false m c x y = refl
+unreached-same true true false c x y = refl
+unreached-same true true true false x y = refl
+unreached-same true true true true x y = refl
+
+short-same : (l i : ℕ) (volumeAt : ℕ → ℕ) (t d p e q : ℕ) → sizedAt l i volumeAt t d p false ≡ sizedAt l i volumeAt t e q false
+unfolding sizedAt
+short-same l i volumeAt t d p e q = unreached-same (ltb 0 i) (leb t mostPercent) (leb l largest) (leb (volumeAt highestDepth) largest)
+    (Granted (figuresOf l d p (volumeAt d))) (Granted (figuresOf l e q (volumeAt e)))
+
+-- A sheet that 5, 6 and 7 leave is reached or falls short.
+abbrev kindOf : Reached → ℕ
+kindOf (reach.Found d p) = 0
+kindOf reach.Short = 1
+kindOf (reach.BadSheet list place) = 2
+kindOf (reach.Refused why) = 3
+
+neither : (b : Bool) (d : Depth) (p : Percent) {x : Reached} → cond b (reach.Found d p) reach.Short ≡ x → kindOf x ≤ 1
+neither true d p e =
+    let q = ap kindOf e in
+    omega arith
+neither false d p e =
+    let q = ap kindOf e in
+    omega arith
+
+module _ (xs : List Area) (l : ℕ) (t : Percent) (ds rs ps : List ℕ) (mode : Mode) (r : ℕ) (found : Reached) (w : Work xs l 0)
+    (f : found ≡ curve.reachOf ds rs ps mode r (t .0)) where
+  -- what the least depth of the target tells, by the test of its percent at depth 200
+  found-by : (c : Curves) (b : Bool) (d : Depth) (p : Percent) → leb (t .0) (percentAt ds ps c highestDepth) ≡ b
+      → cond b
+      (reach.Found (record { 0 = curve.leastDepth ds ps c (t .0) }) (record { 0 = percentAt ds ps c (curve.leastDepth ds ps c (t .0)) }))
+      reach.Short
+      ≡ reach.Found d p
+      → (b ≡ true) × (curve.leastDepth ds ps c (t .0) ≡ d .0) × (percentAt ds ps c (curve.leastDepth ds ps c (t .0)) ≡ p .0)
+  found-by c true d p e h = (refl, ap (λ (x : Reached). curve.reachGiven x .1) h, ap (λ (x : Reached). curve.reachGiven x .2) h)
+  found-by c false d p e h = let z : _≡_ {A = ℕ} 0 1 = cc in absurd (omega arith)
+
+  sized-by : (a : Admission) (d : Depth) (p : Percent) → curve.reachFrom ds ps (t .0) a ≡ reach.Found d p
+      → sizedAt l (areaAt xs 0) (volumeFrom xs) (t .0) (d .0) (p .0) true
+      ≡ onCurves (λ c. worked (Size t) l (areaAt xs 0) (volumeFrom xs) (percentAt ds ps c)) a
+  unfolding curve.reachFrom
+  sized-by (admission.Admitted c) d p h =
+      let k = found-by c (leb (t .0) (percentAt ds ps c highestDepth)) d p refl h in
+      rw (k .0, ← k .1, ← k .2)
+  sized-by (admission.BadSheet list place) d p h = cc
+  sized-by (admission.Refused why) d p h = cc
+
+  pub size-worked : (d : Depth) (p : Percent) (answer : CreditAnswer) → found ≡ reach.Found d p
+      → answer ≡ sizedAt l (areaAt xs 0) (volumeFrom xs) (t .0) (d .0) (p .0) true
+      → answer ≡ onSheet (Size t) l (areaAt xs 0) (volumeFrom xs) ds rs ps mode r
+  unfolding onSheet
+  size-worked d p answer h k = k ∙ sized-by (curve.admissionOf ds rs ps mode r) d p (sym f ∙ h)
+
+  short-by : (c : Curves) (b : Bool) → leb (t .0) (percentAt ds ps c highestDepth) ≡ b
+      → cond b
+      (reach.Found (record { 0 = curve.leastDepth ds ps c (t .0) }) (record { 0 = percentAt ds ps c (curve.leastDepth ds ps c (t .0)) }))
+      reach.Short
+      ≡ reach.Short
+      → b ≡ false
+  short-by c true e h = cc
+  short-by c false e h = refl
+
+  unsized-by : (a : Admission) → curve.reachFrom ds ps (t .0) a ≡ reach.Short
+      → sizedAt l (areaAt xs 0) (volumeFrom xs) (t .0) highestDepth 0 false
+      ≡ onCurves (λ c. worked (Size t) l (areaAt xs 0) (volumeFrom xs) (percentAt ds ps c)) a
+  unfolding curve.reachFrom
+  unsized-by (admission.Admitted c) h =
+      rw (short-by c (leb (t .0) (percentAt ds ps c highestDepth)) refl h)
+      (short-same l (areaAt xs 0) (volumeFrom xs) (t .0) highestDepth 0 _ _)
+  unsized-by (admission.BadSheet list place) h = cc
+  unsized-by (admission.Refused why) h = cc
+
+  pub size-short : (answer : CreditAnswer) → found ≡ reach.Short → answer ≡ sizedAt l (areaAt xs 0) (volumeFrom xs) (t .0) highestDepth 0 false
+      → answer ≡ onSheet (Size t) l (areaAt xs 0) (volumeFrom xs) ds rs ps mode r
+  unfolding onSheet
+  size-short answer h k = k ∙ unsized-by (curve.admissionOf ds rs ps mode r) (sym f ∙ h)
+
+  bad-by : (a : Admission) (list place : ℕ) → curve.reachFrom ds ps (t .0) a ≡ reach.BadSheet list place
+      → BadSheet list place ≡ onCurves (λ c. worked (Size t) l (areaAt xs 0) (volumeFrom xs) (percentAt ds ps c)) a
+  unfolding curve.reachFrom
+  bad-by (admission.Admitted c) list place h = let z = neither (leb (t .0) (percentAt ds ps c highestDepth)) _ _ h in absurd (omega arith)
+  bad-by (admission.BadSheet n q) list place h = cc
+  bad-by (admission.Refused why) list place h = cc
+
+  pub size-bad : (list place : ℕ) → found ≡ reach.BadSheet list place
+      → BadSheet list place ≡ onSheet (Size t) l (areaAt xs 0) (volumeFrom xs) ds rs ps mode r
+  unfolding onSheet
+  size-bad list place h = bad-by (curve.admissionOf ds rs ps mode r) list place (sym f ∙ h)
+
+  refused-by : (a : Admission) (why : Refusal) → curve.reachFrom ds ps (t .0) a ≡ reach.Refused why
+      → Refused why ≡ onCurves (λ c. worked (Size t) l (areaAt xs 0) (volumeFrom xs) (percentAt ds ps c)) a
+  unfolding curve.reachFrom
+  refused-by (admission.Admitted c) why h = let z = neither (leb (t .0) (percentAt ds ps c highestDepth)) _ _ h in absurd (omega arith)
+  refused-by (admission.BadSheet n q) why h = cc
+  refused-by (admission.Refused u) why h = cc
+
+  pub size-stopped : (why : Refusal) → found ≡ reach.Refused why → Refused why ≡ onSheet (Size t) l (areaAt xs 0) (volumeFrom xs) ds rs ps mode r
+  unfolding onSheet
+  size-stopped why h = refused-by (curve.admissionOf ds rs ps mode r) why (sym f ∙ h)
+
+  -- A depth that was found is on the grid, and its percent is at most 100 percent.
+  ready-by : (a : Admission) (d : Depth) (p : Percent) → a ≡ curve.admissionOf ds rs ps mode r → curve.reachFrom ds ps (t .0) a ≡ reach.Found d p
+      → (p .0 ≤ mostPercent) × (d .0 ≤ highestDepth)
+  unfolding curve.reachFrom
+  ready-by (admission.Admitted c) d p e h =
+      let k = found-by c (leb (t .0) (percentAt ds ps c highestDepth)) d p refl h in
+      let m = percent-most (admitted-ready ds rs ps mode r e refl) (curve.leastDepth ds ps c (t .0)) in
+      let g = fails-so-below (λ n. ltb (percentAt ds ps c n) (t .0)) gridDepths highestDepth
+      (le-ltb (percentAt ds ps c highestDepth) (t .0) (leb-true (t .0) (percentAt ds ps c highestDepth) (k .0))) in
+      (omega arith, omega arith)
+  ready-by (admission.BadSheet list place) d p e h = let z : _≡_ {A = ℕ} 0 1 = cc in absurd (omega arith)
+  ready-by (admission.Refused why) d p e h = let z : _≡_ {A = ℕ} 0 1 = cc in absurd (omega arith)
+
+  pub size-ready : (d : Depth) (p : Percent) → found ≡ reach.Found d p → Work xs l (p .0)
+  size-ready d p h =
+      record { areas = w .areas; fits = w .fits; whole = ready-by (curve.admissionOf ds rs ps mode r) d p refl (sym f ∙ h) .0 }
+
+  pub size-on-grid : (d : Depth) (p : Percent) → found ≡ reach.Found d p → d .0 ≤ highestDepth
+  size-on-grid d p h = ready-by (curve.admissionOf ds rs ps mode r) d p refl (sym f ∙ h) .1
