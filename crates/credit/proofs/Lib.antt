@@ -1,2 +1,3 @@
 pub mod Working
 pub mod Answered
+pub mod Sites

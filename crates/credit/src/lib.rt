@@ -1,13 +1,14 @@
 // 01, "Crediting" and "Sizing": on a lent sheet and on a published practice.
 ghost use mathlib.Core.Path.{_≡_};
 ghost use Prim.Native.Nat.{_≤_};
-ghost use mathlib.Core.Bool.{Bool};
 ghost use Rattle.units.specs.Limits.{largest, mostPercent, highestDepth};
 ghost use Rattle.volume.specs.Areas.{areaAt, volumeFrom, Six};
 ghost use Rattle.volume.specs.Answers.{depthOn};
 ghost use Rattle.credit.specs.Credit.{figuresOf, creditBy, sizedAt};
-ghost use Rattle.credit.specs.Answers.{onSheet};
-ghost use Rattle.credit.specs.Working.{Work, depthIn};
+ghost use Rattle.site.specs.Parts.{partsOf};
+ghost use Rattle.published.specs.Published.{depthsIn, between, Standing};
+ghost use Rattle.credit.specs.Answers.{Sheet, onSheet, onParts, bySheet, answerOf};
+ghost use Rattle.credit.specs.Working.{Work, Land, depthIn};
 use curve::Mode;
 use curve::PercentAnswer;
 use curve::Reached;
@@ -195,5 +196,156 @@ fn size_by(
         ),
         Reached::BadSheet { list, place } => CreditAnswer::BadSheet { list, place },
         Reached::Refused(why) => CreditAnswer::Refused(why),
+    }
+}
+
+// The work for both kinds of sheet: on a site that is judged fine, with its six areas beside it.
+fn on_sheet(
+    site: Site,
+    areas: Areas,
+    nutrient: Nutrient,
+    depths: &[u64],
+    rates: &[u64],
+    percents: &[u64],
+    mode: Mode,
+    rate: Rate,
+    wanted: Wanted,
+) -> CreditAnswer
+    requires { ⌜ Land site (areas .of) ⌝ }
+    ensures { λ r. ⌜ r ≡ onParts wanted nutrient (partsOf site) (now (depths .entry)) (now (rates .entry)) (now (percents .entry)) mode (rate .0) ⌝ }
+{
+    let found = loads::load(site, nutrient);
+    match found {
+        LoadAnswer::Granted(load) => match wanted {
+            Wanted::Credit(volume) => {
+                credit_by(areas, load, depths, rates, percents, mode, rate, volume)
+            }
+            Wanted::Size(target) => {
+                size_by(areas, load, depths, rates, percents, mode, rate, target)
+            }
+        },
+        LoadAnswer::Refused(why) => CreditAnswer::Refused(why),
+    }
+}
+
+// Crediting or sizing on a lent sheet.
+pub fn answer_on(
+    site: Site,
+    nutrient: Nutrient,
+    depths: &[u64],
+    rates: &[u64],
+    percents: &[u64],
+    mode: Mode,
+    rate: Rate,
+    wanted: Wanted,
+) -> CreditAnswer
+    ensures { λ r. ⌜ r ≡ answerOf (Sheet.lent (now (depths .entry)) (now (rates .entry)) (now (percents .entry))) wanted nutrient site mode (rate .0) ⌝ }
+{
+    let found = volume::gather(site);
+    let answer = found.answer;
+    let areas = found.areas;
+    match answer {
+        AreaAnswer::Granted(_) => {
+            on_sheet(
+                site,
+                areas,
+                nutrient,
+                depths,
+                rates,
+                percents,
+                mode,
+                rate,
+                wanted,
+            )
+        }
+        AreaAnswer::Refused(why) => CreditAnswer::Refused(why),
+    }
+}
+
+// The work on the sheet that stands at a place of the published ones.
+fn on_table(
+    site: Site,
+    areas: Areas,
+    nutrient: Nutrient,
+    all: &[u64],
+    rates: usize,
+    percents: usize,
+    end: usize,
+    mode: Mode,
+    rate: Rate,
+    wanted: Wanted,
+) -> CreditAnswer
+    requires { ⌜ Land site (areas .of) ⌝ }
+    requires { ⌜ Standing (now all) rates percents end ⌝ }
+    ensures { λ r. ⌜ r ≡ onParts wanted nutrient (partsOf site) (depthsIn (now (all .entry))) (between (now (all .entry)) rates percents) (between (now (all .entry)) percents end) mode (rate .0) ⌝ }
+{
+    on_sheet(
+        site,
+        areas,
+        nutrient,
+        &all[..published::DEPTHS],
+        &all[rates..percents],
+        &all[percents..end],
+        mode,
+        rate,
+        wanted,
+    )
+}
+
+// The work on the published sheet of a practice.
+fn on_practice(
+    site: Site,
+    areas: Areas,
+    nutrient: Nutrient,
+    practice: u64,
+    mode: Mode,
+    rate: Rate,
+    wanted: Wanted,
+) -> CreditAnswer
+    requires { ⌜ Land site (areas .of) ⌝ }
+    ensures { λ r. ⌜ r ≡ bySheet (Sheet.published practice) wanted nutrient (partsOf site) mode (rate .0) ⌝ }
+{
+    let found = published::find(practice, nutrient);
+    match found {
+        Place::At {
+            rates,
+            percents,
+            end,
+        } => {
+            let all = published::sheets();
+            on_table(
+                site,
+                areas,
+                nutrient,
+                &all,
+                rates,
+                percents,
+                end,
+                mode,
+                rate,
+                wanted,
+            )
+        }
+        Place::Refused(why) => CreditAnswer::Refused(why),
+    }
+}
+
+// Crediting or sizing on the published sheet of a practice.
+pub fn answer(
+    site: Site,
+    nutrient: Nutrient,
+    practice: u64,
+    mode: Mode,
+    rate: Rate,
+    wanted: Wanted,
+) -> CreditAnswer
+    ensures { λ r. ⌜ r ≡ answerOf (Sheet.published practice) wanted nutrient site mode (rate .0) ⌝ }
+{
+    let found = volume::gather(site);
+    let answer = found.answer;
+    let areas = found.areas;
+    match answer {
+        AreaAnswer::Granted(_) => on_practice(site, areas, nutrient, practice, mode, rate, wanted),
+        AreaAnswer::Refused(why) => CreditAnswer::Refused(why),
     }
 }

@@ -121,9 +121,9 @@ module _ (s : Site) (total : Area) (e : judged s ≡ area.Granted total) where
   depth-same v = simp (e, fine, volume-gathered, depth-from)
 
 -- What is gathered tells how the record was judged.
-told : (s : Site) (g : Gathered) → g ≡ gatheredAnswer s → g .answer ≡ judged s
+pub judged-told : (s : Site) (g : Gathered) → g ≡ gatheredAnswer s → g .answer ≡ judged s
 unfolding gatheredAnswer
-told s g e = ap (λ (x : Gathered). x .answer) e ∙ by (judged s) refl
+judged-told s g e = ap (λ (x : Gathered). x .answer) e ∙ by (judged s) refl
   where
     by : (a : AreaAnswer) → judged s ≡ a
         → afterJudging {A = Gathered} (λ why. record { answer = area.Refused why; areas = record { of = noAreas } })
@@ -133,23 +133,23 @@ told s g e = ap (λ (x : Gathered). x .answer) e ∙ by (judged s) refl
 
 module _ (s : Site) (g : Gathered) (e : g ≡ gatheredAnswer s) where
   -- a fine record goes on with its six areas
-  areas-told : (total : Area) → g .answer ≡ area.Granted total → g .areas .of ≡ areasOf (partsOf s)
+  pub areas-told : (total : Area) → g .answer ≡ area.Granted total → g .areas .of ≡ areasOf (partsOf s)
   unfolding gatheredAnswer
-  areas-told total f = ap (λ (x : Gathered). x .areas .of) e ∙ simp (sym (told s g e) ∙ f)
+  areas-told total f = ap (λ (x : Gathered). x .areas .of) e ∙ simp (sym (judged-told s g e) ∙ f)
 
   pub volume-on-site : (total : Area) (d : Depth) (r : VolumeAnswer) → g .answer ≡ area.Granted total → r ≡ volumeOn (g .areas .of) d → r ≡ volumeAnswer s d
   volume-on-site total d r f h =
-      h ∙ ap (λ (xs : List Area). volumeOn xs d) (areas-told total f) ∙ volume-same s total (sym (told s g e) ∙ f) d
+      h ∙ ap (λ (xs : List Area). volumeOn xs d) (areas-told total f) ∙ volume-same s total (sym (judged-told s g e) ∙ f) d
 
   pub depth-on-site : (total : Area) (v : Volume) (r : DepthAnswer) → g .answer ≡ area.Granted total → r ≡ depthOn (g .areas .of) v → r ≡ depthAnswer s v
   depth-on-site total v r f h =
-      h ∙ ap (λ (xs : List Area). depthOn xs v) (areas-told total f) ∙ depth-same s total (sym (told s g e) ∙ f) v
+      h ∙ ap (λ (xs : List Area). depthOn xs v) (areas-told total f) ∙ depth-same s total (sym (judged-told s g e) ∙ f) v
 
   -- a refused record stops the call
   pub volume-stops : (why : Refusal) (d : Depth) → g .answer ≡ area.Refused why → Refused why ≡ volumeAnswer s d
   unfolding volumeAnswer
-  volume-stops why d f = simp (sym (told s g e) ∙ f)
+  volume-stops why d f = simp (sym (judged-told s g e) ∙ f)
 
   pub depth-stops : (why : Refusal) (v : Volume) → g .answer ≡ area.Refused why → depth.Refused why ≡ depthAnswer s v
   unfolding depthAnswer
-  depth-stops why v f = simp (sym (told s g e) ∙ f)
+  depth-stops why v f = simp (sym (judged-told s g e) ∙ f)

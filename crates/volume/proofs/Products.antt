@@ -50,3 +50,24 @@ from-gathered xs (p ∷ ps) d l =
 pub volume-gathered : (ps : List SubArea) (d : ℕ) → volumeFrom (areasOf ps) d ≡ volumeOf ps d
 unfolding volumeFrom
 volume-gathered ps d = let e = from-gathered (replicate 6 noArea) ps d refl in omega arith
+
+-- What a sub-area adds to the first of the six areas.
+first-adds : (xs : List Area) → length xs ≡ 6 → (cover : Cover) (k a : ℕ)
+    → areaAt (set xs (placeUnder cover k) (record { 0 = areaAt xs (placeUnder cover k) + a })) 0 ≡ areaAt xs 0 + under cover a
+first-adds [] l cover k a = absurd (omega arith)
+first-adds (x ∷ xs) l Imp k a = refl
+first-adds (x ∷ xs) l Per k a = omega arith
+
+first-gathered : (xs : List Area) (ps : List SubArea) → length xs ≡ 6 → areaAt (gatheredFrom xs ps) 0 ≡ areaAt xs 0 + imperviousArea ps
+unfolding gatheredFrom sumOf
+first-gathered xs [] l = omega arith
+first-gathered xs (p ∷ ps) l =
+    let e = first-gathered (withPart xs p) ps (length-set xs (areaPlace p) _ ∙ l) in
+    let a = first-adds xs l (p .cover) (columnPlace (runoffColumn (p .soil))) (areaOf p) in
+    omega arith
+
+-- The first of the six areas is the impervious area.
+pub impervious-gathered : (ps : List SubArea) → areaAt (areasOf ps) 0 ≡ imperviousArea ps
+impervious-gathered ps =
+    let e = first-gathered (replicate 6 noArea) ps refl in
+    omega arith
