@@ -1,14 +1,14 @@
 -- The promises of the answer text and of its writing, proved.
 -- Assumes nothing.
-use Prim.Native.Nat.{ℕ, _+_, _≤_, _<_}
+use Prim.Native.Nat.{ℕ, _≤_, _<_}
 use mathlib.Core.Path.{_≡_, refl, sym, _∙_, ap}
 use mathlib.Core.List.{List, flatten}
 use native.Mathlib.Nat.{le-trans, zero-add}
 use native.Mathlib.Omega.{arith}
-use lib.ListN.{length, take, drop, length-append, length-drop}
+use lib.ListN.{length, drop, length-append, length-drop}
 use lib.Seq.{take-append-seam, drop-append-seam}
 use mathlib.Core.Logic.{⊎-elim}
-use borrow.Author.Tests.{lt-ltb, le-ltb}
+use borrow.Author.Tests.{le-ltb}
 use Rattle.laws.proofs.Order.{lt-or-le}
 use Rattle.text.specs.Numbers.{decimalFrom, decimalOf}
 use Rattle.refusal.specs.declared.Refusal.the-variants.{UnfitSheet, BufferTooShort}
@@ -18,7 +18,7 @@ use Rattle.answer.specs.Lines.{lineOf, answerText}
 use Rattle.answer.specs.Writing.{pasted, writtenOf, bufferOf, writtenGiven}
 use Rattle.answer.specs.Promises.{NeverLonger, LongestReached, RefusedShorter, OnlyTooShort, LongestSuffices, RefusedKeeps, GrantedHolds, SampleText}
 use Rattle.answer.proofs.Texts.{granted-longest, refused-longest, sheet-text}
-use Rattle.answer.proofs.Writing.{short-answer, short-buffer, long-answer}
+use Rattle.answer.proofs.Writing.{wrote-none, wrote-all}
 
 pub refused-shorter : RefusedShorter
 refused-shorter = refused-longest
@@ -36,10 +36,10 @@ longest-reached = refl
 
 -- the number and the value by the two lengths
 too-short : (buf text : List ℕ) → length buf < length text → writtenGiven (writtenOf buf text) ≡ (numberOf BufferTooShort, 0)
-too-short buf text h = rw (← short-answer buf text refl h)
+too-short buf text h = rw (← wrote-none buf text refl h .answers)
 
 long-enough : (buf text : List ℕ) → length text ≤ length buf → writtenGiven (writtenOf buf text) ≡ (granted, length text)
-long-enough buf text h = rw (← long-answer buf text refl h)
+long-enough buf text h = rw (← wrote-all buf text refl h refl .answers)
 
 pub only-too-short : OnlyTooShort
 only-too-short buf text = (
@@ -55,7 +55,7 @@ pub longest-suffices : LongestSuffices
 longest-suffices o buf w h = long-enough buf (answerText o) (le-trans (never-longer o w) h)
 
 pub refused-keeps : RefusedKeeps
-refused-keeps buf text h = sym (short-buffer buf text refl h)
+refused-keeps buf text h = sym (wrote-none buf text refl h .holds)
 
 pub granted-holds : GrantedHolds
 unfolding bufferOf pasted

@@ -1,9 +1,9 @@
 -- A line put into a buffer piece by piece, and lines one behind the other.
 -- Assumes nothing.
-use Prim.Native.Nat.{ℕ, suc, _+_, _≤_, _<_, _^_}
+use Prim.Native.Nat.{ℕ, _+_, _≤_, _<_, _^_}
 use mathlib.Core.Path.{_≡_, refl, sym, _∙_, ap, subst}
 use mathlib.Core.List.{List, [], _∷_, _++_}
-use native.Mathlib.Nat.{add-assoc, zero-add}
+use native.Mathlib.Nat.{zero-add}
 use native.Mathlib.Numerals.{add-one}
 use native.Mathlib.Omega.{arith}
 use lib.ListN.{length, getD, drop, length-append, drop-of-length-le}
@@ -129,11 +129,6 @@ module _ {keys numbers d₀ : List ℕ} where
               (s .holds);
         }
 
-  pub lined-all : {d rest : List ℕ} {at i : ℕ} → Lined keys numbers d₀ d rest at i → length numbers ≤ i → Put d₀ 0 (linesText keys numbers) d at
+  pub lined-all : {d rest : List ℕ} {at i : ℕ} → Lined keys numbers d₀ d rest at i → length numbers ≤ i → d ≡ pasted d₀ 0 (linesText keys numbers)
   unfolding linesText
-  lined-all {d} {rest} {at} {i} s h =
-      let e = sized-all (s .sized) h in
-      record {
-        next = e ∙ sym (zero-add (length (linesText keys numbers)));
-        holds = sym (pasted-none d at) ∙ rw (drop-of-length-le numbers h) at (s .holds);
-      }
+  lined-all {d} {rest} {at} {i} s h = sym (pasted-none d at) ∙ rw (drop-of-length-le numbers h) at (s .holds)

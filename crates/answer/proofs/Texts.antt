@@ -1,9 +1,9 @@
 -- The text of each outcome from its keys and numbers, and how long it can be.
 -- Assumes nothing.
-use Prim.Native.Nat.{ℕ, _+_, _≤_, _<_, _^_}
-use mathlib.Core.Path.{_≡_, refl, sym, _∙_, ap}
-use mathlib.Core.Bool.{Bool, true, false}
-use mathlib.Core.List.{List, [], _∷_, _++_, flatten}
+use Prim.Native.Nat.{ℕ, _≤_, _<_, _^_}
+use mathlib.Core.Path.{_≡_, refl, ap}
+use mathlib.Core.Bool.{false}
+use mathlib.Core.List.{List, [], _∷_, flatten}
 use native.Mathlib.Omega.{arith}
 use lib.Dec.{eqb, lit<}
 use lib.ListN.{length, length-append}
@@ -15,10 +15,8 @@ use Rattle.refusal.specs.Refusal.{numberOf, granted}
 use Rattle.credit.specs.declared.Figures.{Figures}
 use Rattle.text.specs.Part.{partOf}
 use Rattle.text.specs.Pieces.{indexOf}
-use Rattle.text.specs.Numbers.{decimalOf}
-use Rattle.answer.specs.declared.Outcome.{Outcome}
 use Rattle.answer.specs.declared.Outcome.the-variants.{Granted, Refused, BadSheet}
-use Rattle.answer.specs.Outcomes.{Given, given}
+use Rattle.answer.specs.Outcomes.{given}
 use Rattle.answer.specs.Lines.{lineOf, answerText, longest, longestRefused}
 use Rattle.answer.specs.Putting.{linesText}
 use Rattle.answer.specs.Promises.{Wide}

@@ -33,8 +33,8 @@ abbrev pub RefusedShorter : Type 0
 RefusedShorter = (why : Refusal) (k : ℕ) → k < 2 ^ 64 → length (answerText (Refused why k)) ≤ longestRefused
 
 -- a granted outcome with five figures, in the order in which they are printed
-abbrev pub printed : ℕ → ℕ → ℕ → ℕ → ℕ → Outcome
-printed a b c d e =
+abbrev pub grantedWith : ℕ → ℕ → ℕ → ℕ → ℕ → Outcome
+grantedWith a b c d e =
     Granted
     (record {
       load = record { 0 = a };
@@ -46,7 +46,7 @@ printed a b c d e =
 
 -- The longest length is reached, by the largest numbers of 64 bits.
 abbrev pub LongestReached : Type 0
-LongestReached = let most = 2 ^ 64 - 1 in length (answerText (printed most most most most most)) ≡ longest
+LongestReached = let most = 2 ^ 64 - 1 in length (answerText (grantedWith most most most most most)) ≡ longest
 
 -- Writing gives 13 exactly when the buffer is shorter than the text, and else 0 and the text's length: it has no other refusal.
 abbrev pub OnlyTooShort : Type 0
@@ -79,5 +79,5 @@ GrantedHolds =
 -- 01's sample: a load job whose load is 1,568,350 prints these six lines.
 abbrev pub SampleText : Type 0
 SampleText =
-    answerText (printed 1_568_350 0 0 0 0)
+    answerText (grantedWith 1_568_350 0 0 0 0)
     ≡ bytes "answer=0\nload=1568350\ndepth=0\ncredit=0\nvolume=0\nremoved=0\n"

@@ -4,8 +4,8 @@ ghost use Prim.Native.Nat.{_≤_};
 ghost use lib.ListN.{length};
 ghost use Rattle.text.specs.Numbers.{decimalOf};
 ghost use Rattle.answer.specs.Lines.{lineOf, answerText, longest};
-ghost use Rattle.answer.specs.Writing.{writtenOf, bufferOf};
-ghost use Rattle.answer.specs.Putting.{linesText, Room, Put};
+ghost use Rattle.answer.specs.Writing.{pasted, writtenOf, bufferOf};
+ghost use Rattle.answer.specs.Putting.{linesText, Room, Put, Wrote};
 use credit::Figures;
 use refusal::Refusal;
 
@@ -35,18 +35,15 @@ pub fn write(outcome: Outcome, buf: &mut [u8]) -> Written
     match outcome {
         Outcome::Granted(f) => return write_granted(f, buf),
         Outcome::Refused { refusal, line } => return write_refused(refusal, line, buf),
-        Outcome::BadSheet { list: _, place: _ } => return write_refused(
-            Refusal::UnfitSheet,
-            0,
-            buf,
-        ),
+        Outcome::BadSheet { list: _, place: _ } => {
+            return write_refused(Refusal::UnfitSheet, 0, buf);
+        }
     }
 }
 
 // Writes the lines of a granted outcome.
 fn write_granted(f: Figures, buf: &mut [u8]) -> Written
-    ensures { λ r. ⌜ r ≡ writtenOf (now (buf .entry)) (answerText (Outcome.Granted f)) ⌝ }
-    ensures { λ _. ⌜ now (buf .exit) ≡ bufferOf (now (buf .entry)) (answerText (Outcome.Granted f)) ⌝ }
+    ensures { λ r. ⌜ Wrote (now (buf .entry)) (answerText (Outcome.Granted f)) r (now (buf .exit)) ⌝ }
 {
     let numbers = [0, f.load.0, f.depth.0, f.percent.0, f.volume.0, f.removed.0];
     write_lines(
@@ -58,8 +55,7 @@ fn write_granted(f: Figures, buf: &mut [u8]) -> Written
 
 // Writes the lines of a refused outcome.
 fn write_refused(why: Refusal, line: u64, buf: &mut [u8]) -> Written
-    ensures { λ r. ⌜ r ≡ writtenOf (now (buf .entry)) (answerText (Outcome.Refused why line)) ⌝ }
-    ensures { λ _. ⌜ now (buf .exit) ≡ bufferOf (now (buf .entry)) (answerText (Outcome.Refused why line)) ⌝ }
+    ensures { λ r. ⌜ Wrote (now (buf .entry)) (answerText (Outcome.Refused why line)) r (now (buf .exit)) ⌝ }
 {
     let numbers = [refusal::number(why), line];
     write_lines(b"answer= line=", &numbers, buf)
@@ -68,8 +64,7 @@ fn write_refused(why: Refusal, line: u64, buf: &mut [u8]) -> Written
 // Writes a line for each number at the start of buf, with the keys in turn, unless buf is too short for all of them.
 fn write_lines(keys: &[u8], numbers: &[u64], buf: &mut [u8]) -> Written
     requires { ⌜ length (linesText (now keys) (now numbers)) ≤ longest ⌝ }
-    ensures { λ r. ⌜ r ≡ writtenOf (now (buf .entry)) (linesText (now (keys .entry)) (now (numbers .entry))) ⌝ }
-    ensures { λ _. ⌜ now (buf .exit) ≡ bufferOf (now (buf .entry)) (linesText (now (keys .entry)) (now (numbers .entry))) ⌝ }
+    ensures { λ r. ⌜ Wrote (now (buf .entry)) (linesText (now (keys .entry)) (now (numbers .entry))) r (now (buf .exit)) ⌝ }
 {
     let size = lines_size(keys, numbers);
     if buf.len() < size {
@@ -110,9 +105,9 @@ fn width(n: u64) -> usize
 }
 
 // Puts the lines at the start of buf.
-fn put_lines(keys: &[u8], numbers: &[u64], buf: &mut [u8]) -> usize
+fn put_lines(keys: &[u8], numbers: &[u64], buf: &mut [u8])
     requires { ⌜ Room (now buf) 0 (linesText (now keys) (now numbers)) ⌝ }
-    ensures { λ r. ⌜ Put (now (buf .entry)) 0 (linesText (now (keys .entry)) (now (numbers .entry))) (now (buf .exit)) r ⌝ }
+    ensures { λ _. ⌜ now (buf .exit) ≡ pasted (now (buf .entry)) 0 (linesText (now (keys .entry)) (now (numbers .entry))) ⌝ }
 {
     let mut rest = keys;
     let mut at = 0;
@@ -123,7 +118,6 @@ fn put_lines(keys: &[u8], numbers: &[u64], buf: &mut [u8]) -> usize
         rest = next;
         i += 1;
     }
-    at
 }
 
 // Puts a line into buf from a place on, and answers the place behind it.

@@ -17,7 +17,7 @@ same-length c = search needs
 returns : tie.Need-returns
 returns c =
     let d = c .before .before in
-    rw (d .before .before .before .outcome .given .1) (d .write-granted .ensures)
+    rw (d .before .before .before .outcome .given .1) (d .write-granted .ensures .answers, d .write-granted .ensures .holds)
 
 enum-known-outcome-2 : tie.Need-enum-known-outcome-2
 enum-known-outcome-2 c = search needs
@@ -31,7 +31,7 @@ same-length-2 c = search needs
 returns-2 : tie.Need-returns-2
 returns-2 c =
     let d = c .before .before in
-    rw (d .before .before .before .outcome2 .given .1) (d .write-refused .ensures)
+    rw (d .before .before .before .outcome2 .given .1) (d .write-refused .ensures .answers, d .write-refused .ensures .holds)
 
 enum-told : tie.Need-enum-told
 enum-told c = search needs
@@ -46,7 +46,7 @@ returns-3 : tie.Need-returns-3
 unfolding answerText
 returns-3 c =
     let d = c .before .before in
-    rw (d .before .before .enum-told .given .1) (d .write-refused2 .ensures)
+    rw (d .before .before .enum-told .given .1) (d .write-refused2 .ensures .answers, d .write-refused2 .ensures .holds)
 
 pub write-spec : {M : Type 1} → statement M
 write-spec =

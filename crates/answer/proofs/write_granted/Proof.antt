@@ -1,9 +1,7 @@
 -- `answer::write_granted` meets its contract: the lines of these keys and numbers are the text, which is short enough.
 -- Assumes nothing.
-use mathlib.Core.Path.{_∙_, ap}
 use borrow.Author.Needs.{needs}
-use denote.Ref.{now}
-use Rattle.answer.specs.Writing.{writtenOf, bufferOf}
+use Rattle.answer.proofs.Writing.{wrote-same}
 use Rattle.answer.proofs.Texts.{granted-text, granted-short}
 use Rattle.answer.proofs.write_granted.Statement.{statement}
 use Rattle.answer.proofs.write_granted.Tie as tie
@@ -23,9 +21,7 @@ same-length c = search needs
 returns : tie.Need-returns
 returns c =
     let d = c .before .before in
-    let start = d .before .before .before .before .before in
-    let e = granted-text (start .args .f) in
-    (d .write-lines .ensures .0 ∙ ap (writtenOf (now (start .args .buf))) e, d .write-lines .ensures .1 ∙ ap (bufferOf (now (start .args .buf))) e)
+    wrote-same (granted-text (d .before .before .before .before .before .args .f)) (d .write-lines .ensures)
 
 pub write-granted-spec : {M : Type 1} → statement M
 write-granted-spec =

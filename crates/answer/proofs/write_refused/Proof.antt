@@ -1,9 +1,7 @@
 -- `answer::write_refused` meets its contract: the lines of these keys and numbers are the text, which is short enough.
 -- Assumes nothing.
-use mathlib.Core.Path.{_∙_, ap}
 use borrow.Author.Needs.{needs}
-use denote.Ref.{now}
-use Rattle.answer.specs.Writing.{writtenOf, bufferOf}
+use Rattle.answer.proofs.Writing.{wrote-same}
 use Rattle.answer.proofs.Texts.{refused-text, refused-short}
 use Rattle.answer.proofs.write_refused.Statement.{statement}
 use Rattle.answer.proofs.write_refused.Tie as tie
@@ -31,8 +29,7 @@ returns c =
     let d = c .before .before in
     let numbered = d .before .before .before .before in
     let start = numbered .before .before in
-    let e = refused-text (start .args .why) (start .args .line) (numbered .number .ensures) in
-    (d .write-lines .ensures .0 ∙ ap (writtenOf (now (start .args .buf))) e, d .write-lines .ensures .1 ∙ ap (bufferOf (now (start .args .buf))) e)
+    wrote-same (refused-text (start .args .why) (start .args .line) (numbered .number .ensures)) (d .write-lines .ensures)
 
 pub write-refused-spec : {M : Type 1} → statement M
 write-refused-spec =
