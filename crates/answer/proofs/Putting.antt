@@ -39,9 +39,10 @@ module _ {d : List ℕ} {at : ℕ} (key : List ℕ) (n : ℕ) (room : Room d at 
     room-number = room-next p (decimalOf n) two
 
     module _ {d″ : List ℕ} {end : ℕ} (q : Put d′ value (decimalOf n) d″ end) where
-      pub room-end : Room d″ end (lineFeed ∷ [])
+      -- for one byte, whichever it is
+      pub room-end : (b : ℕ) → Room d″ end (b ∷ [])
       unfolding lineOf
-      room-end = room-next (put-next p room-key q) (lineFeed ∷ []) room
+      room-end b = let room = room-next (put-next p room-key q) (lineFeed ∷ []) room in record { fits = room .fits }
 
       pub put-whole : {d‴ : List ℕ} {last : ℕ} → Put d″ end (lineFeed ∷ []) d‴ last → Put d at (lineOf key n) d‴ last
       unfolding lineOf

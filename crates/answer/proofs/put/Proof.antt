@@ -32,7 +32,7 @@ loop-less : tie.Need-loop-less Inv-loop μ-loop
 loop-less c = search needs
 
 loop-again : tie.Need-loop-again Inv-loop μ-loop
-loop-again c = search (copied-next, needs)
+loop-again c = copied-next (c .before .before .loop .inv) (search needs)
 
 add-result : tie.Need-add-result Inv-loop μ-loop
 add-result c = search needs
@@ -41,7 +41,7 @@ same-length : tie.Need-same-length Inv-loop μ-loop
 same-length c = search needs
 
 returns : tie.Need-returns Inv-loop μ-loop
-returns c = search (copied-all, needs)
+returns c = copied-all (c .before .loop .inv) (search needs)
 
 pub put-spec : {M : Type 1} → statement M
 put-spec =

@@ -16,7 +16,7 @@ loop-holds : tie.Need-loop-holds Inv-loop μ-loop
 loop-holds c = counted-none
 
 add-digits : tie.Need-add-digits Inv-loop μ-loop
-add-digits c = let few = counted-few (c .before .loop .inv) (search needs) (c .loop-test .taken) in omega arith
+add-digits c = let few = counted-few (c .before .loop .inv) (search needs) (search needs) in omega arith
 
 loop-less : tie.Need-loop-less Inv-loop μ-loop
 loop-less c = search needs
