@@ -1,9 +1,8 @@
 -- 01, "The numbers given back": what a finished outcome gives, granted or refused.
 -- Assumes nothing.
 use Prim.Native.Nat.{ℕ}
-use Rattle.refusal.specs.declared.Refusal.{Refusal}
-use Rattle.refusal.specs.declared.Refusal.the-variants.{UnfitSheet}
-use Rattle.refusal.specs.Refusal.{numberOf, granted}
+use Rattle.credit.specs.declared.CreditAnswer.the-variants as credit
+use Rattle.credit.specs.Answers.{Given as Values, given as valuesOf}
 use Rattle.answer.specs.declared.Outcome.{Outcome}
 use Rattle.answer.specs.declared.Outcome.the-variants.{Granted, Refused, BadSheet}
 
@@ -19,34 +18,24 @@ pub record Given : Type 0 where
   pub volume : ℕ
   pub removed : ℕ
 
--- a refusal gives its number, the line, list and place that come with it, and zeros
-abbrev pub refusedWith : Refusal → ℕ → ℕ → ℕ → Given
-refusedWith why k i j =
+-- what crediting and sizing give, with a line of the job
+abbrev pub inLine : ℕ → Values → Given
+inLine k v =
     record {
-      answer = numberOf why;
+      answer = v .answer;
       line = k;
-      list = i;
-      place = j;
-      load = 0;
-      depth = 0;
-      percent = 0;
-      volume = 0;
-      removed = 0;
+      list = v .list;
+      place = v .place;
+      load = v .load;
+      depth = v .depth;
+      percent = v .percent;
+      volume = v .volume;
+      removed = v .removed;
     }
 
--- what each outcome gives; a sheet that breaks a rule is refusal 5, which arises in no line of a job
+-- What each outcome gives: granted, 0 and the figures; refused, the number, the line and zeros; a sheet that breaks a rule, 5 with
+-- list and place, which arises in no line.
 abbrev pub given : Outcome → Given
-given (Granted f) =
-    record {
-      answer = granted;
-      line = 0;
-      list = 0;
-      place = 0;
-      load = f .load .0;
-      depth = f .depth .0;
-      percent = f .percent .0;
-      volume = f .volume .0;
-      removed = f .removed .0;
-    }
-given (Refused why k) = refusedWith why k 0 0
-given (BadSheet i j) = refusedWith UnfitSheet 0 i j
+given (Granted f) = inLine 0 (valuesOf (credit.Granted f))
+given (Refused why k) = inLine k (valuesOf (credit.Refused why))
+given (BadSheet i j) = inLine 0 (valuesOf (credit.BadSheet i j))

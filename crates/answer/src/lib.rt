@@ -13,9 +13,9 @@ use refusal::Refusal;
 pub enum Outcome {
     Granted(Figures),
     // The job's line in which the refusal arose, counted from 1, or 0.
-    Refused { refusal: Refusal, line: u64 },
+    Refused { why: Refusal, line: usize },
     // Refusal 5 of a lent sheet: the list that breaks a rule, and the place in it.
-    BadSheet { list: u64, place: u64 },
+    BadSheet { list: u64, place: usize },
 }
 
 // The length of the text that was written, or the refusal.
@@ -34,7 +34,7 @@ pub fn write(outcome: Outcome, buf: &mut [u8]) -> Written
 {
     match outcome {
         Outcome::Granted(f) => return write_granted(f, buf),
-        Outcome::Refused { refusal, line } => return write_refused(refusal, line, buf),
+        Outcome::Refused { why, line } => return write_refused(why, line, buf),
         Outcome::BadSheet { list: _, place: _ } => {
             return write_refused(Refusal::UnfitSheet, 0, buf);
         }
@@ -54,10 +54,10 @@ fn write_granted(f: Figures, buf: &mut [u8]) -> Written
 }
 
 // Writes the lines of a refused outcome.
-fn write_refused(why: Refusal, line: u64, buf: &mut [u8]) -> Written
+fn write_refused(why: Refusal, line: usize, buf: &mut [u8]) -> Written
     ensures { λ r. ⌜ Wrote (now (buf .entry)) (answerText (Outcome.Refused why line)) r (now (buf .exit)) ⌝ }
 {
-    let numbers = [refusal::number(why), line];
+    let numbers = [refusal::number(why), line as u64];
     write_lines(b"answer= line=", &numbers, buf)
 }
 
