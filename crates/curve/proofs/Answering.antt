@@ -1,18 +1,18 @@
 -- Laws of the answers: what each test makes of them, and what a granted one tells.
 -- Assumes nothing.
-use Prim.Native.Nat.{ℕ, _+_, _/_, _≤_, _<_}
+use Prim.Native.Nat.{ℕ, _/_, _≤_, _<_}
 use mathlib.Core.Bool.{Bool, true, false, cond}
 use mathlib.Core.List.{List}
 use mathlib.Core.Logic.{⊎-elim}
-use mathlib.Core.Path.{_≡_, refl, sym, _∙_, ap}
+use mathlib.Core.Path.{_≡_, refl, sym, _∙_}
 use native.Mathlib.Nat.{le-refl, le-trans}
 use native.Mathlib.Omega.{arith}
 use lib.Dec.{leb, ltb}
 use lib.ListN.{length, getD}
-use borrow.Author.Tests.{leb-true, le-leb, lt-leb, ltb-true, ltb-false, lt-ltb, le-ltb}
-use Rattle.laws.specs.First.{first, Once}
+use borrow.Author.Tests.{leb-true, le-leb, lt-leb, ltb-true, ltb-false, lt-ltb}
+use Rattle.laws.specs.First.{Once}
 use Rattle.laws.proofs.First.{first-le, first-fails, first-all}
-use Rattle.laws.proofs.Order.{lt-or-le, passes-or-fails}
+use Rattle.laws.proofs.Order.{passes-or-fails}
 use Rattle.refusal.specs.declared.Refusal.{Refusal}
 use Rattle.refusal.specs.declared.Refusal.the-variants.{RateOutOfRange, RateBelowSheet, AmountOutOfRange}
 use Rattle.units.specs.Limits.{mostRate, highestDepth, gridDepths}
@@ -28,13 +28,11 @@ use Rattle.curve.specs.declared.Admission.{Admission}
 use Rattle.curve.specs.declared.Admission.the-variants as admission
 use Rattle.curve.specs.declared.ExactAnswer.{ExactAnswer}
 use Rattle.curve.specs.declared.ExactAnswer.the-variants as exact
-use Rattle.curve.specs.declared.PercentAnswer.{PercentAnswer}
 use Rattle.curve.specs.declared.PercentAnswer.the-variants as percent
-use Rattle.curve.specs.declared.Reached.{Reached}
 use Rattle.curve.specs.declared.Reached.the-variants as reach
 use Rattle.curve.specs.Curve.{curvesOf, exactAt, percentAt}
 use Rattle.curve.specs.Ready.{Rated, Ready}
-use Rattle.curve.specs.Answers.{fastestTaken, rated, judgedFirst, admissionOf, exactFrom, exactAnswer, roundedAnswer, percentAnswer, leastDepth, reachFrom, reachOf}
+use Rattle.curve.specs.Answers.{fastestTaken, rated, judgedFirst, admissionOf, exactFrom, exactAnswer, percentAnswer, leastDepth, reachFrom, reachOf}
 use Rattle.curve.proofs.Choices.{neighbours}
 use Rattle.curve.proofs.Rising.{under-some, percent-rises}
 

@@ -1,11 +1,11 @@
 -- Laws of the curves that a site rate is credited by.
 -- Assumes nothing.
-use Prim.Native.Nat.{ℕ, zero, suc, _+_, _-_, _≤_, _<_}
-use mathlib.Core.Bool.{Bool, true, false, cond, _&&_}
+use Prim.Native.Nat.{ℕ, suc, _+_, _-_, _≤_, _<_}
+use mathlib.Core.Bool.{true}
 use mathlib.Core.List.{List}
-use mathlib.Core.Logic.{_⊎_, ⊎-elim}
-use mathlib.Core.Path.{_≡_, refl, sym, _∙_, ap}
-use native.Mathlib.Nat.{le-refl, le-trans}
+use mathlib.Core.Logic.{⊎-elim}
+use mathlib.Core.Path.{_≡_}
+use native.Mathlib.Nat.{le-trans}
 use native.Mathlib.Numerals.{add-one}
 use native.Mathlib.Omega.{arith}
 use lib.Dec.{leb, ltb, eqb, leb·suc-suc}
@@ -14,7 +14,7 @@ use borrow.Author.Tests.{leb-true, leb-false, le-leb, lt-ltb, le-ltb, eqb-true}
 use Rattle.laws.proofs.And.{and-left}
 use Rattle.laws.specs.First.{first}
 use Rattle.laws.proofs.First.{first-le, first-before, first-fails, first-same, first-mono}
-use Rattle.laws.proofs.Order.{lt-or-le, passes-or-fails}
+use Rattle.laws.proofs.Order.{lt-or-le}
 use Rattle.units.specs.Limits.{mostRate}
 use Rattle.sheet.specs.Sheet.{withoutRates}
 use Rattle.sheet.specs.Rules.{InStep, Rules}

@@ -3,23 +3,19 @@
 use Prim.Native.Nat.{ℕ, zero, suc, _+_, _-_, _*_, _≤_, _<_}
 use mathlib.Core.List.{List}
 use mathlib.Core.Logic.{⊎-elim}
-use mathlib.Core.Path.{_≡_, refl, sym, _∙_}
-use native.Mathlib.Nat.{le-refl, le-trans, le-of-eq, eq-or-lt-of-le, le-of-suc-le-suc, mul-le-mul-left, mul-le-mul-right, mul-assoc, mul-comm, mul-left-comm, le-of-mul-le-mul-right}
+use mathlib.Core.Path.{_≡_, sym}
+use native.Mathlib.Nat.{le-refl, le-trans, le-of-eq, eq-or-lt-of-le, mul-le-mul-right, mul-assoc, mul-comm, mul-left-comm, le-of-mul-le-mul-right}
 use native.Mathlib.Numerals.{add-one}
 use native.Mathlib.Omega.{arith}
 use lib.ListN.{length, getD}
 use borrow.Author.Tests.{lt-ltb, le-ltb}
-use Rattle.laws.specs.Line.{line}
 use Rattle.laws.proofs.Line.{line-above, line-below, line-rises, line-mono}
 use Rattle.laws.proofs.Order.{lt-or-le}
 use Rattle.laws.proofs.Table.{rises}
 use Rattle.sheet.specs.Sheet.{previous}
-use Rattle.sheet.specs.Rules.{Rules}
 use Rattle.sheet.proofs.Rows.{row-start, row-next}
 use Rattle.curve.specs.declared.Mode.{Mode}
 use Rattle.curve.specs.declared.Mode.the-variants.{Step, Mix}
-use Rattle.curve.specs.declared.Curves.{Curves}
-use Rattle.curve.specs.declared.Curves.the-variants.{One, Two}
 use Rattle.curve.specs.declared.Fraction.{Fraction}
 use Rattle.curve.specs.Curve.{width, height, fastest, curvesOf, exactIn}
 use Rattle.curve.specs.Ready.{InSegment, Rated}

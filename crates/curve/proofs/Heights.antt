@@ -1,18 +1,17 @@
 -- Laws of one rate's curve: its height times the width of a segment.
 -- Assumes nothing.
-use Prim.Native.Nat.{ℕ, _+_, _-_, _*_, _≤_, _<_}
+use Prim.Native.Nat.{ℕ, _+_, _*_, _≤_, _<_}
 use mathlib.Core.List.{List}
 use mathlib.Core.Logic.{⊎-elim}
-use mathlib.Core.Path.{_≡_, refl, sym, _∙_}
-use native.Mathlib.Nat.{le-refl, le-trans, eq-or-lt-of-le, mul-le-mul, mul-le-mul-left, mul-le-mul-right, mul-assoc, mul-comm, mul-left-comm, le-of-eq}
+use mathlib.Core.Path.{_≡_, sym}
+use native.Mathlib.Nat.{le-refl, le-trans, eq-or-lt-of-le, mul-le-mul-left, mul-le-mul-right, mul-assoc, mul-comm, mul-left-comm, le-of-eq}
 use native.Mathlib.Omega.{arith}
 use lib.ListN.{length, getD}
-use Rattle.laws.specs.Line.{line}
-use Rattle.laws.proofs.Line.{line-above, line-below, line-rises, line-mono}
-use Rattle.units.specs.Limits.{mostRate, mostPercent, highestDepth}
+use Rattle.laws.proofs.Line.{line-above, line-below, line-rises}
+use Rattle.units.specs.Limits.{mostPercent, highestDepth}
 use Rattle.sheet.specs.Sheet.{previous}
-use Rattle.sheet.specs.Rules.{InStep, Rules}
-use Rattle.sheet.proofs.Rows.{row-place, row-rises, one-rises}
+use Rattle.sheet.specs.Rules.{Rules}
+use Rattle.sheet.proofs.Rows.{row-place, row-rises}
 use Rattle.curve.specs.Curve.{width, height}
 use Rattle.curve.specs.Ready.{mostHeight, OnLine, InSegment}
 

@@ -2,8 +2,8 @@
 -- Assumes nothing.
 use Prim.Native.Nat.{ℕ, _+_, _-_, _*_, _≤_, _<_}
 use mathlib.Core.List.{List}
-use mathlib.Core.Path.{_≡_, refl, sym, _∙_}
-use native.Mathlib.Nat.{mul-le-mul, lt-of-le-of-lt}
+use mathlib.Core.Path.{_≡_}
+use native.Mathlib.Nat.{mul-le-mul}
 use native.Mathlib.Omega.{arith}
 use lib.ListN.{length, getD}
 use Rattle.laws.specs.Line.{line}
@@ -14,7 +14,7 @@ use Rattle.curve.specs.declared.Curves.{Curves}
 use Rattle.curve.specs.declared.Curves.the-variants.{One, Two}
 use Rattle.curve.specs.declared.Fraction.{Fraction}
 use Rattle.curve.specs.Curve.{held, segment, width, height, exactIn, exactAt}
-use Rattle.curve.specs.Ready.{mostHeight, OnLine, InSegment, Between}
+use Rattle.curve.specs.Ready.{OnLine, InSegment, Between}
 use Rattle.curve.proofs.Segments.{held-last, segment-in, segment-from, segment-to}
 use Rattle.curve.proofs.Heights.{width-most, point-fits, height-most}
 

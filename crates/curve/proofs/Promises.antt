@@ -1,10 +1,9 @@
 -- The promises hold.
 -- Assumes nothing.
-use Prim.Native.Nat.{ℕ, _≤_, _<_}
+use Prim.Native.Nat.{ℕ, _≤_}
 use mathlib.Core.Bool.{Bool}
 use mathlib.Core.List.{List}
-use mathlib.Core.Path.{_≡_, refl, sym, _∙_}
-use native.Mathlib.Nat.{le-trans}
+use mathlib.Core.Path.{refl}
 use native.Mathlib.Omega.{arith}
 use lib.Dec.{ltb}
 use borrow.Author.Tests.{ltb-false, le-ltb}
@@ -14,9 +13,9 @@ use Rattle.units.specs.Limits.{highestDepth, gridDepths}
 use Rattle.sheet.specs.Rules.{Rules}
 use Rattle.sheet.proofs.Rules.{fine-rules}
 use Rattle.curve.specs.declared.Mode.{Mode}
-use Rattle.curve.specs.Curve.{held, segment, curvesOf, exactOf, percentOf}
+use Rattle.curve.specs.Curve.{curvesOf, exactOf, percentOf}
 use Rattle.curve.specs.Ready.{Rated, Ready}
-use Rattle.curve.specs.Promises.{Granted, NeverFallsWithDepth, AtMostAll, NeverFallsWithRate, leastOf, IsLeast, FindsTheLeast}
+use Rattle.curve.specs.Promises.{Granted, NeverFallsWithDepth, AtMostAll, NeverFallsWithRate, leastOf, FindsTheLeast}
 use Rattle.curve.proofs.Answering.{rate-rated}
 use Rattle.curve.proofs.Choices.{neighbours}
 use Rattle.curve.proofs.Faster.{exact-faster}

@@ -1,22 +1,18 @@
--- The percent of an accepted sheet never falls with depth, is at most 100 percent, and never falls with the site rate where no percent
--- of the sheet falls as its rate rises.
+-- The percent of an accepted sheet never falls with depth, and is at most 100 percent.
 -- Assumes nothing.
-use Prim.Native.Nat.{ℕ, zero, suc, _+_, _-_, _*_, _/_, _≤_, _<_}
+use Prim.Native.Nat.{ℕ, _+_, _-_, _*_, _≤_, _<_}
 use mathlib.Core.List.{List}
-use mathlib.Core.Logic.{⊎-elim}
-use mathlib.Core.Path.{_≡_, refl, sym, _∙_}
-use native.Mathlib.Nat.{le-refl, le-trans, le-of-eq, mul-le-mul, mul-le-mul-left, mul-le-mul-right, mul-assoc, mul-comm, mul-pos, add-mul, add-le-add, div-le-of-le-mul}
+use mathlib.Core.Path.{_≡_, refl, sym}
+use native.Mathlib.Nat.{le-trans, le-of-eq, mul-le-mul-left, mul-le-mul-right, mul-assoc, mul-comm, mul-pos, add-mul, add-le-add, div-le-of-le-mul}
 use native.Mathlib.Omega.{arith}
-use lib.ListN.{length, getD}
-use Rattle.laws.specs.Line.{line}
+use lib.ListN.{length}
 use Rattle.laws.proofs.Line.{line-below}
 use Rattle.laws.proofs.Quotient.{floor-le}
 use Rattle.units.specs.Limits.{mostPercent}
-use Rattle.sheet.specs.Rules.{Rules}
 use Rattle.curve.specs.declared.Curves.{Curves}
 use Rattle.curve.specs.declared.Curves.the-variants.{One, Two}
 use Rattle.curve.specs.declared.Fraction.{Fraction}
-use Rattle.curve.specs.Curve.{held, segment, width, height, exactIn, exactAt, rounded, percentAt}
+use Rattle.curve.specs.Curve.{held, segment, width, height, exactIn, exactAt, percentAt}
 use Rattle.curve.specs.Ready.{InSegment, Between, Neighbours, Ready}
 use Rattle.curve.proofs.Segments.{held-mono, segment-mono}
 use Rattle.curve.proofs.Heights.{width-some, height-share, height-rises}

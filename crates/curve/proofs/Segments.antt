@@ -1,32 +1,27 @@
 -- Laws of the segment in which a depth lies.
 -- Assumes nothing.
-use Prim.Native.Nat.{ℕ, zero, suc, _+_, _-_, _≤_, _<_, min}
-use mathlib.Core.Bool.{Bool, true, false}
+use Prim.Native.Nat.{ℕ, zero, suc, _-_, _≤_, _<_}
 use mathlib.Core.List.{List}
 use mathlib.Core.Logic.{⊎-elim}
-use mathlib.Core.Path.{_≡_, refl, sym}
 use native.Mathlib.Nat.{le-antisymm, le-trans, min-le-left, min-le-right, le-min}
-use native.Mathlib.Numerals.{add-one}
 use native.Mathlib.Omega.{arith}
 use lib.Dec.{ltb}
 use lib.ListN.{length, getD}
 use borrow.Author.Tests.{ltb-true, ltb-false, lt-ltb}
-use Rattle.laws.specs.First.{first}
 use Rattle.laws.proofs.First.{first-le, first-before, first-fails, first-all, first-mono}
 use Rattle.laws.proofs.Order.{lt-or-le}
 use Rattle.sheet.specs.Sheet.{previous}
-use Rattle.sheet.specs.Rules.{InStep, Rules}
 use Rattle.sheet.proofs.Rows.{one-start, one-next}
-use Rattle.curve.specs.Curve.{held, segment, width}
+use Rattle.curve.specs.Curve.{held, segment}
 
--- A deeper depth is read no higher.
+-- A deeper depth is read no less deep.
 pub held-mono : (ds : List ℕ) {d e : ℕ} → d ≤ e → held ds d ≤ held ds e
 held-mono ds {d} {e} h = le-min (le-trans (min-le-left d (getD ds (length ds - 1) 0)) h) (min-le-right d (getD ds (length ds - 1) 0))
 
 pub held-last : (ds : List ℕ) (d : ℕ) → held ds d ≤ getD ds (length ds - 1) 0
 held-last ds d = min-le-right d (getD ds (length ds - 1) 0)
 
--- It lies in no earlier segment.
+-- A deeper depth lies in no earlier segment.
 pub segment-mono : (ds : List ℕ) (x z : ℕ) → x ≤ z → segment ds x ≤ segment ds z
 segment-mono ds x z h =
     first-mono (λ k. ltb (getD ds k 0) x) (λ k. ltb (getD ds k 0) z) (length ds)

@@ -1,31 +1,29 @@
 -- The paper's sentences, said of the definitions: the printed percent comes back at a printed depth and a printed rate, the curve starts
 -- at the origin, and it stays at its last percent.
 -- Assumes nothing.
-use Prim.Native.Nat.{ℕ, zero, suc, _+_, _-_, _*_, _/_, _≤_, _<_, min}
-use mathlib.Core.Bool.{Bool, true, false, cond}
+use Prim.Native.Nat.{ℕ, _+_, _-_, _*_, _/_, _≤_, _<_}
 use mathlib.Core.List.{List}
 use mathlib.Core.Logic.{⊎-elim}
-use mathlib.Core.Path.{_≡_, refl, sym, _∙_, ap}
-use native.Mathlib.Nat.{le-refl, le-trans, le-of-lt, eq-or-lt-of-le, min-eq-left, min-eq-right, mul-comm, mul-assoc, mul-left-comm, mul-pos, sub-zero, add-zero}
+use mathlib.Core.Path.{_≡_, sym, _∙_, ap}
+use native.Mathlib.Nat.{le-refl, le-trans, le-of-lt, eq-or-lt-of-le, min-eq-left, min-eq-right, mul-comm, mul-assoc, mul-left-comm, mul-pos, sub-zero}
 use native.Mathlib.Numerals.{add-one}
 use native.Mathlib.Omega.{arith}
 use lib.Dec.{leb, ltb}
 use lib.ListN.{length, getD}
 use borrow.Author.Tests.{lt-ltb, le-ltb, le-leb, lt-leb}
 use Rattle.laws.specs.First.{first}
-use Rattle.laws.specs.Line.{line}
 use Rattle.laws.proofs.First.{first-is}
 use Rattle.laws.proofs.Line.{line-start, line-end}
 use Rattle.laws.proofs.Order.{lt-or-le}
 use Rattle.laws.proofs.Quotient.{floor-same}
 use Rattle.laws.proofs.Table.{rises}
 use Rattle.sheet.specs.Sheet.{previous}
-use Rattle.sheet.specs.Rules.{InStep, Rules}
+use Rattle.sheet.specs.Rules.{Rules}
 use Rattle.sheet.proofs.Rows.{row-start, one-start, one-rises}
 use Rattle.curve.specs.declared.Mode.{Mode}
 use Rattle.curve.specs.declared.Mode.the-variants.{Step, Mix}
 use Rattle.curve.specs.declared.Curves.{Curves}
-use Rattle.curve.specs.declared.Curves.the-variants.{One, Two}
+use Rattle.curve.specs.declared.Curves.the-variants.{One}
 use Rattle.curve.specs.Curve.{held, segment, width, height, fastest, curvesOf, exactIn, percentAt}
 use Rattle.curve.proofs.Choices.{rates-apart}
 use Rattle.curve.proofs.Heights.{width-some}

@@ -7,7 +7,6 @@ use lib.Dec.{leb, ltb}
 use lib.ListN.{getD}
 use Rattle.laws.specs.First.{first}
 use Rattle.laws.specs.Turn.{inTurn}
-use Rattle.refusal.specs.declared.Refusal.{Refusal}
 use Rattle.refusal.specs.declared.Refusal.the-variants.{UnfitSheet, RateOutOfRange, RateBelowSheet, AmountOutOfRange, TargetUnreachable}
 use Rattle.refusal.specs.Refusal.{numberOf, granted}
 use Rattle.units.specs.Limits.{mostRate, highestDepth, gridDepths}

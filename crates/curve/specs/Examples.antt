@@ -1,7 +1,7 @@
 -- 01, "Numbers to hold on to": the percents of sheet T, and the least depths of targets on it.
 -- Assumes nothing.
 use Prim.Native.Nat.{ℕ}
-use mathlib.Core.List.{List, [], _∷_}
+use mathlib.Core.List.{[], _∷_}
 use mathlib.Core.Path.{_≡_, refl}
 use Rattle.laws.specs.First.{firstFrom}
 use Rattle.sheet.specs.Sheet.{previous, inStep, lengthsFit, withoutRates, offendingRate, verdictOf}

@@ -2,7 +2,7 @@
 -- Assumes nothing.
 use Prim.Native.Nat.{ℕ}
 use mathlib.Core.List.{List}
-use mathlib.Core.Path.{_≡_, refl, sym, _∙_}
+use mathlib.Core.Path.{_≡_}
 use Rattle.refusal.specs.declared.Refusal.{Refusal}
 use Rattle.units.specs.declared.Nutrient.{Nutrient}
 use Rattle.curve.specs.declared.Mode.{Mode}

@@ -1,9 +1,9 @@
--- Every published sheet passes the sheet test.
+-- Every published sheet passes the sheet test, and every practice has one.
 -- Assumes nothing.
 use Prim.Native.Nat.{ℕ, _≤_, _<_}
 use mathlib.Core.Bool.{Bool, true, false, cond}
 use mathlib.Core.Logic.{⊎-elim}
-use mathlib.Core.Path.{_≡_, refl, sym, _∙_}
+use mathlib.Core.Path.{_≡_, refl, sym}
 use Rattle.laws.specs.First.{firstFrom}
 use Rattle.laws.proofs.Order.{lt-or-le, never-both}
 use Rattle.units.specs.declared.Nutrient.{Nutrient}
@@ -13,6 +13,7 @@ use Rattle.sheet.specs.declared.Verdict.the-variants.{Fine, Unfit}
 use Rattle.sheet.specs.Sheet.{previous, inStep, lengthsFit, withoutRates, offendingRate, verdictOf}
 use Rattle.published.specs.Tables.{depths}
 use Rattle.published.specs.Published.{lastPractice, ratesOf, percentsOf, isPublished}
+use Rattle.published.specs.Promises.{EverySheetPasses, EveryPracticeHasOne}
 use Rattle.published.proofs.Places.{for-each, none-above}
 
 abbrev isFine : Verdict → Bool
@@ -33,11 +34,15 @@ unfolding ratesOf percentsOf verdictOf lengthsFit offendingRate withoutRates inS
 all-pass P = for-each (passes P) refl
 all-pass N = for-each (passes N) refl
 
-pub published-passes : (practice : ℕ) (nutrient : Nutrient) → isPublished practice nutrient ≡ true
-    → verdictOf depths (ratesOf practice nutrient) (percentsOf practice nutrient) ≡ Fine
-published-passes practice nutrient e =
+pub every-sheet-passes : EverySheetPasses
+every-sheet-passes practice nutrient e =
     ⊎-elim
     (λ (h : lastPractice < practice). absurd (never-both e (none-above nutrient practice h)))
     (λ (h : practice ≤ lastPractice).
     fine-is (verdictOf depths (ratesOf practice nutrient) (percentsOf practice nutrient)) (simp e at (all-pass nutrient practice h)))
     (lt-or-le lastPractice practice)
+
+pub every-practice-has-one : EveryPracticeHasOne
+unfolding ratesOf
+every-practice-has-one practice P h = for-each (λ p. isPublished p P) refl practice h
+every-practice-has-one practice N h = for-each (λ p. isPublished p N) refl practice h

@@ -1,13 +1,12 @@
 -- Laws of numbers in rows: what stands before a place of a row, and that a row in step rises.
 -- Assumes nothing.
-use Prim.Native.Nat.{ℕ, zero, suc, _+_, _-_, _*_, _%_, _≤_, _<_}
-use mathlib.Core.Bool.{Bool, true, false, cond}
+use Prim.Native.Nat.{ℕ, zero, suc, _+_, _-_, _*_, _≤_, _<_}
 use mathlib.Core.List.{List}
 use mathlib.Core.Logic.{⊎-elim}
-use mathlib.Core.Path.{_≡_, refl, sym, _∙_, ap}
-use native.Mathlib.Nat.{add-zero, zero-add, zero-mul, suc-mul, mul-mod-left, mul-add-mod-self-right, mod-eq-of-lt, mul-le-mul-right, le-refl, le-trans, le-of-suc-le-suc, eq-or-lt-of-le}
+use mathlib.Core.Path.{_≡_}
+use native.Mathlib.Nat.{add-zero, zero-add, zero-mul, suc-mul, mul-mod-left, mul-add-mod-self-right, mod-eq-of-lt, mul-le-mul-right, le-refl, le-of-suc-le-suc, eq-or-lt-of-le}
 use native.Mathlib.Omega.{arith}
-use lib.Dec.{eqb, eqb·suc-zero}
+use lib.Dec.{eqb·suc-zero}
 use lib.ListN.{length, getD}
 use Rattle.sheet.specs.Sheet.{previous}
 use Rattle.sheet.specs.Rules.{InStep}

@@ -4,14 +4,13 @@ use Prim.Native.Nat.{ℕ, _+_, _*_, _≤_, _<_}
 use mathlib.Core.Bool.{Bool, true, false, cond, _&&_}
 use mathlib.Core.List.{List}
 use mathlib.Core.Logic.{_⊎_, inl, inr, ⊎-elim}
-use mathlib.Core.Path.{_≡_, refl, sym, _∙_, ap}
+use mathlib.Core.Path.{_≡_, refl}
 use native.Mathlib.Nat.{le-antisymm, le-of-eq, le-refl}
 use native.Mathlib.Omega.{arith}
 use lib.Dec.{leb, ltb, eqb}
 use lib.ListN.{length, getD}
-use borrow.Author.Tests.{leb-true, le-leb, ltb-true, ltb-false, le-ltb, eqb-true, eq-eqb}
+use borrow.Author.Tests.{leb-true, le-leb, ltb-false, le-ltb, eqb-true, eq-eqb}
 use Rattle.laws.proofs.And.{and-left, and-right}
-use Rattle.laws.specs.First.{first}
 use Rattle.laws.proofs.First.{first-le, first-all, first-is}
 use Rattle.laws.proofs.Order.{passes-or-fails, never-both}
 use Rattle.units.specs.Limits.{mostRate, mostPercent, highestDepth}

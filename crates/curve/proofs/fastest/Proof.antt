@@ -1,6 +1,5 @@
 -- `curve::fastest` meets its contract: the rates not above the site rate are those below one more, and there is one.
 -- Assumes nothing.
-use mathlib.Core.Path.{_∙_, ap, subst}
 use Rattle.curve.proofs.Choices.{segment-some, fastest-is}
 use borrow.Author.Needs.{needs}
 use Rattle.curve.proofs.fastest.Statement.{statement}
