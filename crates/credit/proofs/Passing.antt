@@ -1,0 +1,133 @@
+-- A granted answer passed each of its tests, and where each passes the answer is the one that is granted.
+-- Assumes nothing.
+use Prim.Native.Nat.{ℕ, _≤_, _<_}
+use mathlib.Core.Bool.{Bool, true, false}
+use mathlib.Core.List.{List, [], _∷_}
+use mathlib.Core.Path.{_≡_, refl, _∙_}
+use native.Mathlib.Omega.{arith}
+use lib.Dec.{leb, ltb}
+use borrow.Author.Tests.{leb-true, le-leb, lt-leb, ltb-true, lt-ltb}
+use Rattle.laws.specs.Turn.{inTurn}
+use Rattle.refusal.specs.declared.Refusal.{Refusal}
+use Rattle.refusal.specs.declared.Refusal.the-variants as refused
+use Rattle.refusal.specs.Refusal.{numberOf, granted}
+use Rattle.units.specs.Limits.{largest, mostPercent, highestDepth}
+use Rattle.credit.specs.declared.CreditAnswer.{CreditAnswer}
+use Rattle.credit.specs.declared.CreditAnswer.the-variants.{Granted, Refused}
+use Rattle.credit.specs.Credit.{figuresOf, depthWithin, depthReaching, creditBy, sizedAt, sizeBy}
+use Rattle.credit.specs.Answers.{given}
+
+-- No refusal has the number of a granted answer.
+pub refusal-not-granted : (why : Refusal) → numberOf why ≡ granted → ⊥
+refusal-not-granted refused.MalformedText e = omega arith
+refusal-not-granted refused.UnfitSubArea e = omega arith
+refusal-not-granted refused.TotalAreaPassed e = omega arith
+refusal-not-granted refused.NoPublishedSheet e = omega arith
+refusal-not-granted refused.UnfitSheet e = omega arith
+refusal-not-granted refused.RateOutOfRange e = omega arith
+refusal-not-granted refused.RateBelowSheet e = omega arith
+refusal-not-granted refused.NoImperviousArea e = omega arith
+refusal-not-granted refused.AmountOutOfRange e = omega arith
+refusal-not-granted refused.TargetUnreachable e = omega arith
+refusal-not-granted refused.ReadingNotARate e = omega arith
+refusal-not-granted refused.ReadingTooFast e = omega arith
+refusal-not-granted refused.BufferTooShort e = omega arith
+refusal-not-granted refused.SiteFull e = omega arith
+refusal-not-granted refused.PastLargest e = omega arith
+
+-- each of the tests passes
+abbrev pub Pass : List (Bool × Refusal) → Type 0
+Pass [] = Unit {0}
+Pass ((passes, why) ∷ tests) = (passes ≡ true) × Pass tests
+
+-- Tests in turn that end in a granted answer all pass, and what they go on to is granted.
+pub granted-pass : (a : CreditAnswer) (tests : List (Bool × Refusal)) → given (inTurn Refused a tests) .answer ≡ granted
+    → Pass tests × (given a .answer ≡ granted)
+granted-pass a [] g = (tt, g)
+granted-pass a ((true, why) ∷ tests) g =
+    let p = granted-pass a tests g in
+    ((refl, p .0), p .1)
+granted-pass a ((false, why) ∷ tests) g = absurd (refusal-not-granted why g)
+
+-- What crediting and sizing ask of a site alike: 8 and 15.
+pub record Within (load impervious : ℕ) (volumeAt : ℕ → ℕ) : Type 0 where
+  pub some-impervious : 0 < impervious
+  pub load-within : load ≤ largest
+  pub volumes-within : volumeAt highestDepth ≤ largest
+
+module _ (load impervious : ℕ) (volumeAt percentAt : ℕ → ℕ) where
+  -- 8, 9 by the amount, 15, and what is tried after them
+  abbrev tests : Bool → List (Bool × Refusal) → List (Bool × Refusal)
+  tests amount rest =
+      (ltb 0 impervious, refused.NoImperviousArea)
+      ∷ (amount, refused.AmountOutOfRange)
+      ∷ (leb load largest, refused.PastLargest)
+      ∷ (leb (volumeAt highestDepth) largest, refused.PastLargest)
+      ∷ rest
+
+  module _ (a : CreditAnswer) (amount : Bool) (rest : List (Bool × Refusal)) where
+    all-passed : given (inTurn Refused a (tests amount rest)) .answer ≡ granted → Within load impervious volumeAt × (amount ≡ true) × Pass rest
+    all-passed g =
+        let p = granted-pass a (tests amount rest) g .0 in (
+          record {
+            some-impervious = ltb-true 0 impervious (p .0);
+            load-within = leb-true load largest (p .1 .1 .0);
+            volumes-within = leb-true (volumeAt highestDepth) largest (p .1 .1 .1 .0);
+          },
+          p .1 .0,
+          p .1 .1 .1 .1,
+        )
+
+    rest-decides : Within load impervious volumeAt → amount ≡ true → inTurn Refused a (tests amount rest) ≡ inTurn Refused a rest
+    rest-decides w e =
+        simp (
+          lt-ltb 0 impervious (w .some-impervious),
+          e,
+          le-leb load largest (w .load-within),
+          le-leb (volumeAt highestDepth) largest (w .volumes-within),
+        )
+
+  -- Crediting is granted where 8, 9 and 15 pass, and nowhere else.
+  module _ (v : ℕ) where
+    abbrev pub credited : CreditAnswer
+    credited = Granted (figuresOf load (depthWithin volumeAt v) (percentAt (depthWithin volumeAt v)) v)
+
+    pub credit-passed : given (creditBy load impervious volumeAt percentAt v) .answer ≡ granted → Within load impervious volumeAt × (v ≤ largest)
+    unfolding creditBy
+    credit-passed g =
+        let p = all-passed credited (leb v largest) [] g in
+        (p .0, leb-true v largest (p .1))
+
+    pub credit-works : Within load impervious volumeAt → v ≤ largest → creditBy load impervious volumeAt percentAt v ≡ credited
+    unfolding creditBy
+    credit-works w h = rest-decides credited (leb v largest) [] w (le-leb v largest h)
+
+  -- Sizing is granted where 10 passes too, and nowhere else.
+  module _ (target : ℕ) where
+    abbrev pub sized : CreditAnswer
+    sized =
+        Granted
+        (figuresOf load (depthReaching percentAt target) (percentAt (depthReaching percentAt target)) (volumeAt (depthReaching percentAt target)))
+
+    abbrev reached : List (Bool × Refusal)
+    reached = (leb target (percentAt highestDepth), refused.TargetUnreachable) ∷ []
+
+    pub size-passed : given (sizeBy load impervious volumeAt percentAt target) .answer ≡ granted
+        → Within load impervious volumeAt × (target ≤ mostPercent) × (target ≤ percentAt highestDepth)
+    unfolding sizedAt
+    size-passed g =
+        let p = all-passed sized (leb target mostPercent) reached g in
+        (p .0, leb-true target mostPercent (p .1), leb-true target (percentAt highestDepth) (p .2 .0))
+
+    module _ (w : Within load impervious volumeAt) (h : target ≤ mostPercent) where
+      pub size-works : target ≤ percentAt highestDepth → sizeBy load impervious volumeAt percentAt target ≡ sized
+      unfolding sizedAt
+      size-works l =
+          rest-decides sized (leb target mostPercent) reached w (le-leb target mostPercent h)
+          ∙ simp (le-leb target (percentAt highestDepth) l)
+
+      pub size-short : percentAt highestDepth < target → sizeBy load impervious volumeAt percentAt target ≡ Refused refused.TargetUnreachable
+      unfolding sizedAt
+      size-short l =
+          rest-decides sized (leb target mostPercent) reached w (le-leb target mostPercent h)
+          ∙ simp (lt-leb target (percentAt highestDepth) l)
