@@ -104,10 +104,10 @@ module _ (n : Nutrient) (parts : List SubArea) (mode : Mode) (r : ℕ) where
       × ((other : Wanted) → bySheet sheet other n parts mode r ≡ onPercents other n parts (percentOn sheet n mode r))
   sheet-opens (lent ds rs ps) wanted g = lists-open ds rs ps wanted g
   sheet-opens (published practice) wanted g =
-      let p =
-      granted-pass (onParts wanted n parts depths (ratesOf practice n) (percentsOf practice n) mode r)
-      ((isPublished practice n, NoPublishedSheet) ∷ []) g in
-      let l = lists-open depths (ratesOf practice n) (percentsOf practice n) wanted (p .1) in
+      let rs = ratesOf practice n in
+      let ps = percentsOf practice n in
+      let p = granted-pass (onParts wanted n parts depths rs ps mode r) ((isPublished practice n, NoPublishedSheet) ∷ []) g in
+      let l = lists-open depths rs ps wanted (p .1) in
       (l .0, λ other. simp (p .0 .0) (l .1 other))
 
   -- Crediting and sizing ask alike for impervious area, and for a load and a V(200) within 10^13.
