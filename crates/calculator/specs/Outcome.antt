@@ -1,0 +1,70 @@
+-- 01, "Job and answer text" and "The numbers given back": from a job text to its outcome.
+-- Assumes nothing.
+use Prim.Native.Nat.{ℕ}
+use mathlib.Core.List.{List, [], _∷_}
+use lib.Dec.{eqb}
+use Rattle.laws.specs.Turn.{inTurn}
+use Rattle.refusal.specs.declared.Refusal.{Refusal}
+use Rattle.refusal.specs.declared.Refusal.the-variants.{AmountOutOfRange}
+use Rattle.site.specs.declared.Site.{Site}
+use Rattle.loads.specs.declared.LoadAnswer.{LoadAnswer}
+use Rattle.loads.specs.declared.LoadAnswer.the-variants as load
+use Rattle.loads.specs.Loads.{loadAnswer}
+use Rattle.credit.specs.declared.CreditAnswer.{CreditAnswer}
+use Rattle.credit.specs.declared.CreditAnswer.the-variants as credit
+use Rattle.credit.specs.Answers.{Sheet, lent, published, answerOf, credit as creditOf, size as sizeOf}
+use Rattle.job.specs.declared.Job.{Job}
+use Rattle.job.specs.declared.Task.{Task}
+use Rattle.job.specs.declared.Task.the-variants as task
+use Rattle.job.specs.declared.JobAnswer.{JobAnswer}
+use Rattle.job.specs.declared.JobAnswer.the-variants as job
+use Rattle.job.specs.Reading.{readingOf}
+use Rattle.answer.specs.declared.Outcome.{Outcome}
+use Rattle.answer.specs.declared.Outcome.the-variants.{Granted, Refused, BadSheet}
+
+-- a refusal that arose in no line of the job
+abbrev pub outsideLines : Refusal → Outcome
+outsideLines why = Refused why 0
+
+-- a granted load job gives the load and leaves the other figures 0
+abbrev pub ofLoad : LoadAnswer → Outcome
+ofLoad (load.Granted l) =
+    Granted
+    (record {
+      load = l;
+      depth = record { 0 = 0 };
+      percent = record { 0 = 0 };
+      volume = record { 0 = 0 };
+      removed = record { 0 = 0 };
+    })
+ofLoad (load.Refused why) = outsideLines why
+
+abbrev pub ofCredit : CreditAnswer → Outcome
+ofCredit (credit.Granted figures) = Granted figures
+ofCredit (credit.BadSheet list place) = BadSheet list place
+ofCredit (credit.Refused why) = outsideLines why
+
+-- Task load tries only 9 and 15.
+unfoldable pub ofLoadJob : Job → Site → Outcome
+ofLoadJob j s = inTurn outsideLines (ofLoad (loadAnswer (j .nutrient) s)) ((eqb (j .amount) 0, AmountOutOfRange) ∷ [])
+
+-- Amount is 0 for load, a volume for credit, a target percent for size.
+abbrev pub ofTask : Task → Sheet → Job → Site → Outcome
+ofTask task.Load sheet j s = ofLoadJob j s
+ofTask task.Credit sheet j s = ofCredit (answerOf sheet (creditOf (j .amount)) (j .nutrient) s (j .mode) (j .rate .0))
+ofTask task.Size sheet j s = ofCredit (answerOf sheet (sizeOf (j .amount)) (j .nutrient) s (j .mode) (j .rate .0))
+
+-- what the tables say: the sheet of the job's practice; or what a lent sheet says in their place
+abbrev pub byTables : Job → Sheet
+byTables j = published (j .practice)
+
+abbrev pub byLent : List ℕ → List ℕ → List ℕ → Job → Sheet
+byLent ds rs ps j = lent ds rs ps
+
+-- a text that does not read is refused with its line; a job that reads is worked out
+abbrev pub ofReading : (Job → Sheet) → Site → JobAnswer → Outcome
+ofReading sheet s (job.Granted j) = ofTask (j .task) (sheet j) j s
+ofReading sheet s (job.Refused why line) = Refused why line
+
+unfoldable pub outcomeOf : (Job → Sheet) → List ℕ → Outcome
+outcomeOf sheet text = ofReading sheet (readingOf text .site) (readingOf text .answer)
