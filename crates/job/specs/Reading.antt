@@ -1,6 +1,6 @@
 -- 01, "Job and answer text" and "The numbers given back": a job text read, or refused 1, 2, 3 or 14 with its line.
 -- Assumes nothing.
-use Prim.Native.Nat.{ℕ}
+use Prim.Native.Nat.{ℕ, _+_}
 use mathlib.Core.Bool.{cond}
 use mathlib.Core.List.{List}
 use lib.ListN.{length, drop}
@@ -29,7 +29,7 @@ headLines = 6
 -- behind a head that reads, the areas from line 7 on
 unfoldable pub behindHead : HeadRead → List (List ℕ) → Reading
 behindHead (Bad k) lines = refusedAt k MalformedText
-behindHead (Fine job) lines = areasFrom job (drop headLines lines) 7 emptySite 0
+behindHead (Fine job) lines = areasFrom job (drop headLines lines) (headLines + 1) emptySite 0
 
 -- the length first, then the lines, first to last
 unfoldable pub readingOf : List ℕ → Reading

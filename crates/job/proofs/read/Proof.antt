@@ -1,6 +1,7 @@
 -- `job::read` meets its contract: the length, the head and the areas decide in the definition's order.
 -- Assumes nothing.
 use Rattle.job.proofs.Whole.{reading-long, reading-bad, reading-areas}
+use native.Mathlib.Omega.{arith}
 use borrow.Author.Needs.{needs}
 use Rattle.job.proofs.read.Statement.{statement}
 use Rattle.job.proofs.read.Tie as tie
@@ -9,7 +10,7 @@ refused-requires : tie.Need-refused-requires
 refused-requires c κs = search needs
 
 returns : tie.Need-returns
-returns c = search (reading-long, needs)
+returns c = reading-long _ (omega arith) (c .refused .ensures)
 
 read-head-requires : tie.Need-read-head-requires
 read-head-requires c κs = search needs
@@ -30,10 +31,16 @@ read-areas-requires : tie.Need-read-areas-requires
 read-areas-requires c κs = search needs
 
 returns-2 : tie.Need-returns-2
-returns-2 c = search (reading-bad, needs)
+returns-2 c =
+    reading-bad _ (omega arith) (c .before .before .before .before .read-head .ensures) (c .before .before .found .given .1)
+    (c .refused2 .ensures)
 
 returns-3 : tie.Need-returns-3
-returns-3 c = search (reading-areas, needs)
+returns-3 c =
+    reading-areas _ (omega arith) (c .before .before .before .before .before .read-head .ensures)
+    (c .before .before .before .found2 .given .1)
+    (c .before .from-piece .ensures .bytes)
+    (c .read-areas .ensures)
 
 pub read-spec : {M : Type 1} → statement M
 read-spec =

@@ -60,7 +60,23 @@ sub-area-requires c κs =
     )
 
 returns : tie.Need-returns
-returns c = search (fields-read, needs)
+returns c =
+    let soil = c .before .before .before in
+    let cover = soil .before .before .before in
+    let land = cover .before .before .before in
+    let behind = land .before .before .before in
+    fields-read _
+    (behind .before .after .ensures .bytes)
+    (behind .after2 .ensures .bytes)
+    (land .before .before2 .ensures .bytes)
+    (land .find-word .ensures)
+    (cover .before .before3 .ensures .bytes)
+    (cover .find-word2 .ensures)
+    (soil .before .before4 .ensures .bytes)
+    (soil .find-word3 .ensures)
+    (c .before .before .after3 .ensures .bytes)
+    (c .before .number .ensures)
+    (c .sub-area .ensures)
 
 pub fields-spec : {M : Type 1} → statement M
 fields-spec =

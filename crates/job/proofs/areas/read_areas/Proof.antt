@@ -51,7 +51,17 @@ loop-less : tie.Need-loop-less Inv-loop μ-loop
 loop-less c = search (after-shorter, needs)
 
 loop-again : tie.Need-loop-again Inv-loop μ-loop
-loop-again c = search (walked-next, needs)
+loop-again c =
+    let added = c .before .before .before .before .before in
+    let loop = added .before .before .before .before in
+    walked-next _ _ _ _ _ _
+    (loop .loop .inv)
+    (added .before .before .before .has .ensures)
+    (added .before .before .if1 .taken)
+    (added .before .read-area .ensures)
+    (added .add-line .ensures)
+    (c .before .before .before .answer .given .1)
+    (c .after .ensures .bytes)
 
 ended-requires : tie.Need-ended-requires Inv-loop μ-loop
 ended-requires c κs = search needs

@@ -69,7 +69,20 @@ judged-requires c κs =
     )
 
 returns : tie.Need-returns
-returns c = search (head-read, needs)
+returns c =
+    let task = c .before .before .before in
+    let rate = task .before .before .before in
+    let mode = rate .before .before in
+    let nutrient = mode .before .before .before in
+    let practice = nutrient .before .before .before in
+    head-read _
+    (practice .word .ensures)
+    (nutrient .word2 .ensures)
+    (mode .word3 .ensures)
+    (rate .number .ensures)
+    (task .word4 .ensures)
+    (c .before .number2 .ensures)
+    (c .judged .ensures)
 
 pub read-head-spec : {M : Type 1} → statement M
 read-head-spec =
