@@ -9,3 +9,4 @@ pub mod Faster
 pub mod Promises
 pub mod Sentences
 pub mod Granting
+pub mod Searching

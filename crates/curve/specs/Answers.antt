@@ -1,8 +1,9 @@
 -- 01, "The numbers given back": a call for a percent tries 5, 6, 7, then 9; a call for the least depth of a target tries 5, 6, 7, then 10.
 -- Assumes nothing.
-use Prim.Native.Nat.{ℕ}
+use Prim.Native.Nat.{ℕ, _≤_}
 use mathlib.Core.Bool.{cond}
 use mathlib.Core.List.{List, [], _∷_}
+use mathlib.Core.Path.{_≡_}
 use lib.Dec.{leb, ltb}
 use lib.ListN.{getD}
 use Rattle.laws.specs.First.{first}
@@ -65,6 +66,11 @@ percentAnswer ds rs ps mode r d = roundedAnswer (exactAnswer ds rs ps mode r d)
 -- 01, "Sizing": the least grid depth whose percent is at least the target
 abbrev pub leastDepth : List ℕ → List ℕ → Curves → ℕ → ℕ
 leastDepth ds ps c target = first (λ d. ltb (percentAt ds ps c d) target) gridDepths
+
+-- What a search for a target finds: the least depth, and its percent where that depth is on the grid.
+pub record Reaching (ds ps : List ℕ) (c : Curves) (target depth percent : ℕ) : Type 0 where
+  pub least : depth ≡ leastDepth ds ps c target
+  pub there : depth ≤ highestDepth → percent ≡ percentAt ds ps c depth
 
 -- an admitted sheet's least depth with its percent, or none where the target is above the percent at depth 200
 unfoldable pub reachFrom : List ℕ → List ℕ → ℕ → Admission → Reached

@@ -6,7 +6,7 @@ ghost use Rattle.laws.specs.Line.{line};
 ghost use Rattle.sheet.specs.Sheet.{previous};
 ghost use Rattle.curve.specs.Curve.{held, segment, width, height, fastest, curvesOf, exactIn, exactAt, percentAt};
 ghost use Rattle.curve.specs.Ready.{OnLine, InSegment, Rated, Between, Ready};
-ghost use Rattle.curve.specs.Answers.{fastestTaken, rated, admissionOf, exactAnswer, percentAnswer, leastDepth, reachOf};
+ghost use Rattle.curve.specs.Answers.{Reaching, fastestTaken, rated, admissionOf, exactAnswer, percentAnswer, reachOf};
 use refusal::Refusal;
 use sheet::Verdict;
 use units::Depth;
@@ -219,22 +219,42 @@ fn percent_at(depths: &[u64], rates: &[u64], percents: &[u64], curves: Curves, d
     f.over / f.under
 }
 
-// The least grid depth whose percent is at least the target, or 201: bisected, in at most 8 percents.
-fn least(depths: &[u64], rates: &[u64], percents: &[u64], curves: Curves, target: u64) -> u64
+// A depth that was searched for, and its percent.
+struct Lowest {
+    depth: u64,
+    percent: u64,
+}
+
+// The least grid depth whose percent is at least the target, with that percent, or 201: found in at most 8 percents.
+fn least(depths: &[u64], rates: &[u64], percents: &[u64], curves: Curves, target: u64) -> Lowest
     requires { ⌜ Ready (now depths) (now rates) (now percents) curves ⌝ }
-    ensures { λ r. ⌜ r ≡ leastDepth (now (depths .entry)) (now (percents .entry)) curves target ⌝ }
+    ensures { λ r. ⌜ Reaching (now (depths .entry)) (now (percents .entry)) curves target (r .depth) (r .percent) ⌝ }
 {
-    let mut low = 0;
+    let mut low = Depth::LOWEST;
     let mut high = Depth::HIGHEST + 1;
-    while low < high {
-        let middle = low + (high - low) / 2;
-        if percent_at(depths, rates, percents, curves, middle) < target {
-            low = middle + 1;
-            continue;
+    let mut percent: u64 = 0;
+    let mut trials: u64 = 8;
+    while 0 < trials {
+        if high <= low {
+            return Lowest {
+                depth: low,
+                percent,
+            };
         }
-        high = middle;
+        let middle = low + (high - low) / 2;
+        trials -= 1;
+        let there = percent_at(depths, rates, percents, curves, middle);
+        if there < target {
+            low = middle + 1;
+        } else {
+            high = middle;
+            percent = there;
+        }
     }
-    low
+    Lowest {
+        depth: low,
+        percent,
+    }
 }
 
 // The fastest site rate that a sheet takes: 0 where it is without rates.
@@ -331,12 +351,9 @@ pub fn reach(
     let admission = admit(depths, rates, percents, mode, rate);
     match admission {
         Admission::Admitted(curves) => {
-            let d = least(depths, rates, percents, curves, target.0);
-            if d <= Depth::HIGHEST {
-                return Reached::Found(
-                    Depth(d),
-                    Percent(percent_at(depths, rates, percents, curves, d)),
-                );
+            let found = least(depths, rates, percents, curves, target.0);
+            if found.depth <= Depth::HIGHEST {
+                return Reached::Found(Depth(found.depth), Percent(found.percent));
             }
             Reached::Short
         }

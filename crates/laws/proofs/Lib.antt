@@ -3,7 +3,6 @@ pub mod And
 pub mod First
 pub mod Walk
 pub mod Bisection
-pub mod Halving
 pub mod Quotient
 pub mod Line
 pub mod Table

@@ -1,9 +1,8 @@
--- The first number at which a test fails, and how bisection finds it.
+-- The first number at which a test fails, and what bisection asks of a test.
 -- Assumes nothing.
 use Prim.Native.Nat.{ℕ, zero, suc, _+_, _-_, _/_, _≤_, _<_}
 use mathlib.Core.Bool.{Bool, true, false, cond}
 use mathlib.Core.Path.{_≡_}
-use lib.Dec.{ltb}
 
 -- the first of the n numbers from k on at which the test fails, or k + n where it passes at each of them
 unfoldable pub firstFrom : (ℕ → Bool) → ℕ → ℕ → ℕ
@@ -21,11 +20,3 @@ Once test n = (i j : ℕ) → i ≤ j → j < n → test j ≡ true → test i �
 -- the number halfway from low to high
 abbrev pub middle : ℕ → ℕ → ℕ
 middle low high = low + (high - low) / 2
-
--- bisection of the numbers from low to high, with at most so many trials of the test
-unfoldable pub bisect : (ℕ → Bool) → ℕ → ℕ → ℕ → ℕ
-bisect test zero low high = low
-bisect test (suc trials) low high =
-    cond (ltb low high)
-    (cond (test (middle low high)) (bisect test trials (middle low high + 1) high) (bisect test trials low (middle low high)))
-    low

@@ -44,7 +44,7 @@ once-above xs v i j h k e = le-leb _ _ (le-trans (from-rises xs i j h (omega ari
 
 module _ (xs : List Area) (v : ℕ) where
   pub above-starts : Halving (notAbove xs v) gridDepths 8 0 gridDepths
-  above-starts = halving-starts (notAbove xs v) gridDepths 8 (once-above xs v) (lit< tt)
+  above-starts = halving-starts (notAbove xs v) gridDepths 8 (lit< tt)
 
   -- V(0) = 0 is not above any volume.
   pub some-within : (r : ℕ) → r ≡ first (notAbove xs v) gridDepths → 1 ≤ r
@@ -57,7 +57,7 @@ module _ (xs : List Area) (v : ℕ) where
   pub above-up : (trials low high r : ℕ) → Halving (notAbove xs v) gridDepths trials low high → 0 < trials → low < high
       → r ≡ volumeFrom xs (middle low high) → r ≤ v → Halving (notAbove xs v) gridDepths (trials - 1) (middle low high + 1) high
   above-up trials low high r s h l e k =
-      halving-up (notAbove xs v) gridDepths trials low high s h l (le-leb (volumeFrom xs (middle low high)) v (omega arith))
+      halving-up (notAbove xs v) gridDepths trials low high (once-above xs v) s h l (le-leb (volumeFrom xs (middle low high)) v (omega arith))
 
   pub above-down : (trials low high r : ℕ) → Halving (notAbove xs v) gridDepths trials low high → 0 < trials → low < high
       → r ≡ volumeFrom xs (middle low high) → v < r → Halving (notAbove xs v) gridDepths (trials - 1) low (middle low high)

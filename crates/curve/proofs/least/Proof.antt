@@ -1,40 +1,35 @@
--- `curve::least` meets its contract: the percents never fall with depth, so halving the grid finds the first that reaches the target.
+-- `curve::least` meets its contract: the percents never fall with depth, so the grid is bisected; eight trials are enough for 201 depths.
 -- Assumes nothing.
-use Prim.Native.Nat.{ℕ, _-_}
-use mathlib.Core.Bool.{Bool}
-use mathlib.Core.List.{List}
-use native.Mathlib.Omega.{arith}
 use borrow.Author.Needs.{needs}
-use borrow.Author.Tests.{lt-ltb, le-ltb}
-use lib.Dec.{ltb}
-use Rattle.laws.proofs.Halving.{Halved, halve-start, halve-up, halve-down, halve-end}
-use Rattle.units.specs.Limits.{gridDepths}
-use Rattle.curve.specs.declared.Curves.{Curves}
-use Rattle.curve.specs.Curve.{percentAt}
-use Rattle.curve.proofs.Answering.{reaches-once}
+use native.Mathlib.Omega.{arith}
+use Rattle.curve.proofs.Searching.{Searching, search-starts, search-done, search-up, search-down, search-out}
 use Rattle.curve.proofs.least.Statement.{statement}
 use Rattle.curve.proofs.least.Tie as tie
 
-abbrev test : List ℕ → List ℕ → Curves → ℕ → ℕ → Bool
-test ds ps c t d = ltb (percentAt ds ps c d) t
-
 abbrev Inv-loop : tie.InvT-loop
-Inv-loop depths rates percents curves target low₀ high₀ low high = Halved (test depths percents curves target) gridDepths low high
+Inv-loop depths rates percents curves target low₀ high₀ percent₀ trials₀ low high percent trials =
+    Searching depths percents curves target trials low high percent
 
 abbrev μ-loop : tie.MeasureT-loop
-μ-loop depths rates percents curves target low₀ high₀ low high = high - low
+μ-loop depths rates percents curves target low₀ high₀ percent₀ trials₀ low high percent trials = trials
 
 add-high : tie.Need-add-high Inv-loop μ-loop
 add-high c = search needs
 
 loop-holds : tie.Need-loop-holds Inv-loop μ-loop
-loop-holds c = halve-start
+loop-holds c = search (search-starts, needs)
+
+returns : tie.Need-returns Inv-loop μ-loop
+returns c = search (search-done, needs)
 
 sub-middle : tie.Need-sub-middle Inv-loop μ-loop
 sub-middle c = search needs
 
 add-middle : tie.Need-add-middle Inv-loop μ-loop
 add-middle c = search needs
+
+sub-trials : tie.Need-sub-trials Inv-loop μ-loop
+sub-trials c = search needs
 
 percent-at-requires : tie.Need-percent-at-requires Inv-loop μ-loop
 percent-at-requires c κs = search needs
@@ -46,23 +41,16 @@ loop-less : tie.Need-loop-less Inv-loop μ-loop
 loop-less c = search needs
 
 loop-again : tie.Need-loop-again Inv-loop μ-loop
-loop-again c =
-    halve-up _ (reaches-once (c .before .before .before .before .before .before .before .pre) _)
-    (c .before .before .before .loop .inv)
-    (omega arith)
-    (lt-ltb _ _ (rw (c .before .percent-at .ensures) at (c .if1 .taken)))
+loop-again c = search (search-up, needs)
 
 loop-less-2 : tie.Need-loop-less-2 Inv-loop μ-loop
 loop-less-2 c = search needs
 
 loop-again-2 : tie.Need-loop-again-2 Inv-loop μ-loop
-loop-again-2 c =
-    halve-down _ (c .before .before .before .loop .inv)
-    (omega arith)
-    (le-ltb _ _ (rw (c .before .percent-at .ensures) at (c .if1 .left)))
+loop-again-2 c = search (search-down, needs)
 
-returns : tie.Need-returns Inv-loop μ-loop
-returns c = halve-end (c .before .loop .inv) (c .loop-test .left)
+returns-2 : tie.Need-returns-2 Inv-loop μ-loop
+returns-2 c = search (search-out, needs)
 
 pub least-spec : {M : Type 1} → statement M
 least-spec =
@@ -72,12 +60,14 @@ least-spec =
     μ-loop
     add-high
     loop-holds
+    returns
     sub-middle
     add-middle
+    sub-trials
     percent-at-requires
     add-low
     loop-less
     loop-again
     loop-less-2
     loop-again-2
-    returns)
+    returns-2)

@@ -1,7 +1,8 @@
 -- `curve::reach` meets its contract: an admitted sheet is ready for every depth, and the least depth is on the grid where the target is reached.
 -- Assumes nothing.
-use Rattle.curve.proofs.Answering.{admitted-ready, reach-found, reach-short, reach-bad, reach-refused}
 use borrow.Author.Needs.{needs}
+use Rattle.curve.proofs.Answering.{admitted-ready, reach-bad, reach-refused}
+use Rattle.curve.proofs.Searching.{found-reached, found-short}
 use Rattle.curve.proofs.reach.Statement.{statement}
 use Rattle.curve.proofs.reach.Tie as tie
 
@@ -14,11 +15,8 @@ enum-known-admission c = search needs
 least-requires : tie.Need-least-requires
 least-requires c κs = search (admitted-ready, needs)
 
-percent-at-requires : tie.Need-percent-at-requires
-percent-at-requires c κs = search (admitted-ready, needs)
-
 returns : tie.Need-returns
-returns c = search (reach-found, needs)
+returns c = search (found-reached, needs)
 
 enum-known-admission-2 : tie.Need-enum-known-admission-2
 enum-known-admission-2 c = search needs
@@ -27,7 +25,7 @@ enum-known-admission-3 : tie.Need-enum-known-admission-3
 enum-known-admission-3 c = search needs
 
 returns-2 : tie.Need-returns-2
-returns-2 c = search (reach-short, needs)
+returns-2 c = search (found-short, needs)
 
 returns-3 : tie.Need-returns-3
 returns-3 c = search (reach-bad, needs)
@@ -42,7 +40,6 @@ reach-spec =
     admit-requires
     enum-known-admission
     least-requires
-    percent-at-requires
     returns
     enum-known-admission-2
     enum-known-admission-3
