@@ -1,0 +1,352 @@
+// Runs the rules' own numbers and every entry of the published tables through the library, and prints a line for each. The
+// stored output was made from source document 001 without the library, and tools/expected.py says what each line holds.
+use credit::CreditAnswer;
+use credit::Wanted;
+use curve::Mode;
+use curve::PercentAnswer;
+use libc::STDOUT_FILENO;
+use loads::LoadAnswer;
+use probe::RateAnswer;
+use probe::Reading;
+use published::Place;
+use refusal::Refusal;
+use runoff::RunoffAnswer;
+use sheet::Verdict;
+use site::Cover;
+use site::LandUse;
+use site::Site;
+use site::Soil;
+use site::SubArea;
+use units::Area;
+use units::Column;
+use units::Depth;
+use units::Nutrient;
+use units::Percent;
+use units::Rate;
+use units::Volume;
+use volume::VolumeAnswer;
+ghost use Rattle.published.specs.Published.{Standing};
+
+// Puts a byte into a line, unless the line is full, and answers the place behind it.
+fn put_byte(byte: u8, line: &mut [u8], at: usize) -> usize {
+    if line.len() <= at {
+        return at;
+    }
+    line[at] = byte;
+    at + 1
+}
+
+// Puts a text into a line.
+fn put(text: &[u8], line: &mut [u8], at: usize) -> usize {
+    let mut place = at;
+    for i in 0..text.len() {
+        place = put_byte(text[i], line, place);
+    }
+    place
+}
+
+// Puts a space and the digits of a number into a line.
+fn put_number(number: u64, line: &mut [u8], at: usize) -> usize {
+    let mut digits = [0u8; 20];
+    let count = io::decimal(number, &mut digits);
+    let place = put_byte(b' ', line, at);
+    put(&digits[..count], line, place)
+}
+
+// Writes a line out up to its end.
+fn write(line: &[u8], end: usize) {
+    if end <= line.len() {
+        io::write_all(STDOUT_FILENO, &line[..end]);
+    }
+}
+
+// Prints a line of a word and numbers.
+fn say(word: &[u8], numbers: &[u64]) {
+    let mut room = [0u8; 256];
+    let line: &mut [u8] = &mut room;
+    let mut place = put(word, line, 0);
+    for i in 0..numbers.len() {
+        place = put_number(numbers[i], line, place);
+    }
+    let end = put_byte(b'\n', line, place);
+    write(line, end);
+}
+
+// The runoff of a column at a rain.
+fn say_runoff(column: Column, rain: u64) {
+    let place = units::place(column) as u64;
+    let found = runoff::runoff(column, Depth(rain));
+    match found {
+        RunoffAnswer::Granted(depth) => say(b"runoff", &[place, rain, depth.0]),
+        RunoffAnswer::Refused(why) => say(b"runoff", &[refusal::number(why)]),
+    }
+}
+
+// A row of Table 3-4.
+fn say_row(rain: u64) {
+    say_runoff(Column::A, rain);
+    say_runoff(Column::B, rain);
+    say_runoff(Column::C, rain);
+    say_runoff(Column::CD, rain);
+    say_runoff(Column::D, rain);
+}
+
+// The rules' three numbers, then Table 3-4.
+fn runoffs() {
+    say_runoff(Column::A, 55);
+    say_runoff(Column::CD, 110);
+    say_runoff(Column::D, 200);
+    let rows = runoff::printed_rows();
+    for i in 0..10 {
+        let row = rows[i];
+        say_row(row[0]);
+    }
+}
+
+// The rules' sheet T with 65000 read as 35000.
+fn sheet_of_the_rules() {
+    let depths = [20, 60, 100];
+    let rates = [25, 75];
+    let percents = [20000, 50000, 70000, 40000, 35000, 80000];
+    let found = sheet::judge(&depths, &rates, &percents);
+    match found {
+        Verdict::Fine => say(b"sheet", &[0, 0, 0]),
+        Verdict::Unfit { list, place } => say(
+            b"sheet",
+            &[refusal::number(Refusal::UnfitSheet), list, place as u64],
+        ),
+    }
+}
+
+fn say_reading(reading: Reading) {
+    let found = probe::rate(reading);
+    match found {
+        RateAnswer::Granted(rate) => say(b"reading", &[0, rate.0]),
+        RateAnswer::Refused(why) => say(b"reading", &[refusal::number(why), 0]),
+    }
+}
+
+// The rules' three readings.
+fn readings() {
+    say_reading(Reading::InchesPerHour(0.25));
+    say_reading(Reading::InchesPerHour(0.5));
+    say_reading(Reading::MillimetresPerHour(127.0));
+}
+
+fn with(site: Site, land: LandUse, cover: Cover, soil: Soil, area: u64) -> Site {
+    let part = SubArea {
+        land,
+        cover,
+        soil,
+        area: Area(area),
+    };
+    let added = site::add(site, part);
+    added.site
+}
+
+// The load job of the rules.
+fn sample() {
+    let one = with(site::empty(), LandUse::Ind, Cover::Imp, Soil::NoSoil, 1013);
+    let two = with(one, LandUse::Com, Cover::Per, Soil::C, 185);
+    let three = with(two, LandUse::For, Cover::Per, Soil::C, 89);
+    let found = loads::load(three, Nutrient::N);
+    match found {
+        LoadAnswer::Granted(load) => say(b"sample", &[0, load.0]),
+        LoadAnswer::Refused(why) => say(b"sample", &[refusal::number(why), 0]),
+    }
+}
+
+fn nutrient_number(nutrient: Nutrient) -> u64 {
+    match nutrient {
+        Nutrient::P => 0,
+        Nutrient::N => 1,
+    }
+}
+
+fn mode_number(mode: Mode) -> u64 {
+    match mode {
+        Mode::Step => 0,
+        Mode::Mix => 1,
+    }
+}
+
+// The load of one acre.
+fn say_load(
+    nutrient: Nutrient,
+    land: LandUse,
+    cover: Cover,
+    soil: Soil,
+    use_number: u64,
+    soil_number: u64,
+) {
+    let site = with(site::empty(), land, cover, soil, 100);
+    let number = nutrient_number(nutrient);
+    let found = loads::load(site, nutrient);
+    match found {
+        LoadAnswer::Granted(load) => {
+            say(b"load", &[number, use_number, soil_number, 0, load.0]);
+        }
+        LoadAnswer::Refused(why) => {
+            say(
+                b"load",
+                &[number, use_number, soil_number, refusal::number(why), 0],
+            );
+        }
+    }
+}
+
+// The rates of a land use: pervious on each soil, then impervious.
+fn loads_of_use(nutrient: Nutrient, land: LandUse, number: u64) {
+    say_load(nutrient, land, Cover::Per, Soil::A, number, 0);
+    say_load(nutrient, land, Cover::Per, Soil::B, number, 1);
+    say_load(nutrient, land, Cover::Per, Soil::C, number, 2);
+    say_load(nutrient, land, Cover::Per, Soil::CD, number, 3);
+    say_load(nutrient, land, Cover::Per, Soil::D, number, 4);
+    say_load(nutrient, land, Cover::Per, Soil::U, number, 5);
+    say_load(nutrient, land, Cover::Imp, Soil::NoSoil, number, 6);
+}
+
+// Table 3-1 or 3-2.
+fn loads_of(nutrient: Nutrient) {
+    loads_of_use(nutrient, LandUse::Com, 0);
+    loads_of_use(nutrient, LandUse::Ind, 1);
+    loads_of_use(nutrient, LandUse::Hdr, 2);
+    loads_of_use(nutrient, LandUse::Mdr, 3);
+    loads_of_use(nutrient, LandUse::Ldr, 4);
+    loads_of_use(nutrient, LandUse::Hwy, 5);
+    loads_of_use(nutrient, LandUse::For, 6);
+    loads_of_use(nutrient, LandUse::Open, 7);
+    loads_of_use(nutrient, LandUse::Ag, 8);
+}
+
+// The number given back, the depth, the credit, the volume and the removed load of an answer: zeros beside a refusal.
+fn values(answer: CreditAnswer) -> [u64; 5] {
+    match answer {
+        CreditAnswer::Granted(f) => [0, f.depth.0, f.percent.0, f.volume.0, f.removed.0],
+        CreditAnswer::BadSheet { list: _, place: _ } => {
+            [refusal::number(Refusal::UnfitSheet), 0, 0, 0, 0]
+        }
+        CreditAnswer::Refused(why) => [refusal::number(why), 0, 0, 0, 0],
+    }
+}
+
+// The percent of a published sheet; 0 where it is refused.
+fn percent_at(practice: u64, nutrient: Nutrient, mode: Mode, rate: u64, depth: u64) -> u64 {
+    let found = published::percent(practice, nutrient, mode, Rate(rate), Depth(depth));
+    match found {
+        PercentAnswer::Granted(percent) => percent.0,
+        PercentAnswer::BadSheet { list: _, place: _ } => 0,
+        PercentAnswer::Refused(_) => 0,
+    }
+}
+
+// V of a depth; 0 where it is refused.
+fn volume_at(site: Site, depth: u64) -> u64 {
+    let found = volume::volume(site, Depth(depth));
+    match found {
+        VolumeAnswer::Granted(volume) => volume.0,
+        VolumeAnswer::Refused(_) => 0,
+    }
+}
+
+// A printed percent, by volume and by target, on one commercial impervious acre.
+fn say_point(practice: u64, nutrient: Nutrient, mode: Mode, rate: u64, depth: u64) {
+    let acre = with(site::empty(), LandUse::Com, Cover::Imp, Soil::NoSoil, 100);
+    let percent = percent_at(practice, nutrient, mode, rate, depth);
+    let volume = Wanted::Credit(Volume(volume_at(acre, depth)));
+    let target = Wanted::Size(Percent(percent));
+    let credited = values(credit::answer(acre, nutrient, practice, mode, Rate(rate), volume));
+    let sized = values(credit::answer(acre, nutrient, practice, mode, Rate(rate), target));
+    say(
+        b"point",
+        &[
+            practice,
+            nutrient_number(nutrient),
+            mode_number(mode),
+            rate,
+            depth,
+            percent,
+            credited[0],
+            credited[1],
+            credited[2],
+            credited[4],
+            sized[0],
+            sized[1],
+            sized[2],
+            sized[3],
+            sized[4],
+        ],
+    );
+}
+
+// The points of a rate.
+fn points_of_rate(practice: u64, nutrient: Nutrient, mode: Mode, rate: u64, depths: &[u64]) {
+    for i in 0..depths.len() {
+        say_point(practice, nutrient, mode, rate, depths[i]);
+    }
+}
+
+fn points_of_mode(practice: u64, nutrient: Nutrient, mode: Mode, rates: &[u64], depths: &[u64]) {
+    for i in 0..rates.len() {
+        points_of_rate(practice, nutrient, mode, rates[i], depths);
+    }
+}
+
+// The points of a sheet, in both modes.
+fn points_of_sheet(practice: u64, nutrient: Nutrient, rates: &[u64], depths: &[u64]) {
+    points_of_mode(practice, nutrient, Mode::Step, rates, depths);
+    points_of_mode(practice, nutrient, Mode::Mix, rates, depths);
+}
+
+// The points of the sheet that stands at a place of the published ones.
+fn points_at(
+    practice: u64,
+    nutrient: Nutrient,
+    all: &[u64],
+    rates: usize,
+    percents: usize,
+    end: usize,
+)
+    requires { ⌜ Standing (now all) rates percents end ⌝ }
+{
+    points_of_sheet(
+        practice,
+        nutrient,
+        &all[rates..percents],
+        &all[..published::DEPTHS],
+    );
+}
+
+// The points of a practice.
+fn points_of(practice: u64, nutrient: Nutrient) {
+    let found = published::find(practice, nutrient);
+    match found {
+        Place::At {
+            rates,
+            percents,
+            end,
+        } => {
+            let all = published::sheets();
+            points_at(practice, nutrient, &all, rates, percents, end);
+        }
+        Place::Refused(why) => say(b"point", &[practice, refusal::number(why)]),
+    }
+}
+
+// All published tables.
+fn points() {
+    for practice in 0..=published::LAST_PRACTICE {
+        points_of(practice, Nutrient::P);
+        points_of(practice, Nutrient::N);
+    }
+}
+
+fn main() {
+    runoffs();
+    sheet_of_the_rules();
+    readings();
+    sample();
+    loads_of(Nutrient::P);
+    loads_of(Nutrient::N);
+    points();
+}
