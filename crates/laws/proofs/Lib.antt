@@ -7,3 +7,4 @@ pub mod Quotient
 pub mod Line
 pub mod Table
 pub mod Sum
+pub mod Equation
