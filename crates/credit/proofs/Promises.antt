@@ -22,8 +22,9 @@ use Rattle.curve.specs.declared.Mode.{Mode}
 use Rattle.curve.proofs.Promises.{never-falls-with-rate}
 use Rattle.credit.specs.declared.CreditAnswer.the-variants.{Granted}
 use Rattle.credit.specs.Credit.{figuresOf, depthReaching}
-use Rattle.credit.specs.Answers.{Sheet, credit, size, answerOf, given}
-use Rattle.credit.specs.Promises.{depthsIn, ratesIn, percentsIn, percentOn, CreditIsByTheTables, SizeIsByTheTables, MoreStorageNeverLess, HigherTargetNeverSmaller, SizedIsLeast, UnreachableExactly, FasterSoilNeverLess, SizingAgrees}
+use Rattle.credit.specs.Answers.{Sheet, credit, size, answerOf, given, published}
+use Rattle.published.proofs.FasterRates.{none-falls-with-rate}
+use Rattle.credit.specs.Promises.{depthsIn, ratesIn, percentsIn, percentOn, CreditIsByTheTables, SizeIsByTheTables, MoreStorageNeverLess, HigherTargetNeverSmaller, SizedIsLeast, UnreachableExactly, FasterSoilNeverLess, FasterSoilOnTheTables, SizingAgrees}
 use Rattle.credit.proofs.Depths.{depth-mono, depth-below, depth-back, before-reaching, reaching-mono, reaching-on-grid, reaching-reaches}
 use Rattle.credit.proofs.Opening.{Open, granted-opens, credit-within, credit-is, size-within, size-is, size-unreachable, percent-mono}
 
@@ -115,3 +116,7 @@ unreachable-exactly sheet n s mode r target h g =
             (below (volumeOf (partsOf s) highestDepth) (volume-within o highestDepth (le-refl highestDepth))))),
       ),
     )
+
+pub faster-soil-on-the-tables : FasterSoilOnTheTables
+faster-soil-on-the-tables practice n s mode r q v =
+    faster-soil-never-less (published practice) n s mode r q v (none-falls-with-rate practice n)

@@ -119,6 +119,15 @@ FasterSoilNeverLess =
     → Credited sheet n s mode q v .answer ≡ granted
     → Credited sheet n s mode r v .percent ≤ Credited sheet n s mode q v .percent
 
+-- On the published tables it is so: no percent falls as its rate rises.
+abbrev pub FasterSoilOnTheTables : Type 0
+FasterSoilOnTheTables =
+    (practice : ℕ) (n : Nutrient) (s : Site) (mode : Mode) (r q v : ℕ)
+    → r ≤ q
+    → Credited (published practice) n s mode r v .answer ≡ granted
+    → Credited (published practice) n s mode q v .answer ≡ granted
+    → Credited (published practice) n s mode r v .percent ≤ Credited (published practice) n s mode q v .percent
+
 -- Sizing, and then crediting the volume it gave, gives back the same.
 abbrev pub SizingAgrees : Type 0
 SizingAgrees =

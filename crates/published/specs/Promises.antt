@@ -6,6 +6,7 @@ use mathlib.Core.Path.{_≡_}
 use Rattle.units.specs.declared.Nutrient.{Nutrient}
 use Rattle.sheet.specs.declared.Verdict.the-variants.{Fine}
 use Rattle.sheet.specs.Sheet.{verdictOf}
+use Rattle.curve.specs.Promises.{FasterIsNoLess}
 use Rattle.published.specs.Tables.{depths}
 use Rattle.published.specs.Published.{lastPractice, ratesOf, percentsOf, isPublished}
 
@@ -18,3 +19,8 @@ EverySheetPasses =
 -- Every practice from 0 to 8 has a sheet for both nutrients: today no practice is without a column.
 abbrev pub EveryPracticeHasOne : Type 0
 EveryPracticeHasOne = (practice : ℕ) (nutrient : Nutrient) → practice ≤ lastPractice → isPublished practice nutrient ≡ true
+
+-- In no published sheet does a percent fall as its rate rises: what demand 3 asks of a sheet for a faster soil never to lower the credit.
+abbrev pub NoneFallsWithRate : Type 0
+NoneFallsWithRate =
+    (practice : ℕ) (nutrient : Nutrient) → FasterIsNoLess depths (ratesOf practice nutrient) (percentsOf practice nutrient)
