@@ -94,7 +94,7 @@ site-beside s = at (ltb mostBytes (length s))
     at false = head-sound (linesOf s) (headOf (linesOf s))
 
 -- refusal 1 in a line points to that line
-fault-span : (s : List ℕ) (k : ℕ) → readingOf s .answer ≡ Refused MalformedText (suc k) → faultOf s ≡ (startOf lineFeed s k, endOf lineFeed s k)
+fault-span : (s : List ℕ) (k : ℕ) → readingOf s .answer ≡ Refused MalformedText (suc k) → faultOf s ≡ record { from = startOf lineFeed s k; to = endOf lineFeed s k }
 unfolding faultIn lineSpan
 fault-span s k e = rw e
 
@@ -105,4 +105,4 @@ pub missing-line : MissingLine
 missing-line s k e last empty =
     let ends = last-ends lineFeed s k last in
     let starts = empty-starts lineFeed s k empty in
-    fault-span s k e ∙ (λ i. ((starts ∙ ends) i, ends i))
+    fault-span s k e ∙ (λ i. record { from = (starts ∙ ends) i; to = ends i })

@@ -10,20 +10,17 @@ use Rattle.refusal.specs.Refusal.{numberOf}
 use Rattle.text.specs.Pieces.{lineFeed, startOf, endOf}
 use Rattle.job.specs.declared.JobAnswer.{JobAnswer}
 use Rattle.job.specs.declared.JobAnswer.the-variants.{Granted, Refused}
+use Rattle.job.specs.declared.Span.{Span}
 use Rattle.job.specs.Reading.{readingOf}
-
--- the places at which a part starts and stops
-abbrev pub Span : Type 0
-Span = ℕ × ℕ
 
 -- an empty part at the end of the text
 abbrev pub atTheEnd : List ℕ → Span
-atTheEnd s = (length s, length s)
+atTheEnd s = record { from = length s; to = length s }
 
 -- Line k of a text, counted from 1: it is empty, at the end, where the line is missing. Line 0 is that of a text that is too long: an empty part at the start.
 unfoldable pub lineSpan : List ℕ → ℕ → Span
-lineSpan s zero = (0, 0)
-lineSpan s (suc k) = (startOf lineFeed s k, endOf lineFeed s k)
+lineSpan s zero = record { from = 0; to = 0 }
+lineSpan s (suc k) = record { from = startOf lineFeed s k; to = endOf lineFeed s k }
 
 -- the offending line under refusal 1
 unfoldable pub faultIn : List ℕ → JobAnswer → Span

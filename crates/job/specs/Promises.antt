@@ -30,7 +30,7 @@ abbrev pub OffendingLine : Type 0
 OffendingLine =
     (s : List ℕ) (k : ℕ)
     → readingOf s .answer ≡ Refused MalformedText (suc k)
-    → partOf s (faultOf s .0) (faultOf s .1) ≡ getD (linesOf s) k []
+    → partOf s (faultOf s .from) (faultOf s .to) ≡ getD (linesOf s) k []
 
 -- Where nothing of the text is left for that line, which is missing, the part is empty and lies at the end.
 abbrev pub MissingLine : Type 0

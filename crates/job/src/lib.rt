@@ -1,10 +1,9 @@
 // 01, "Job and answer text": the job text read, and the offending part of one that is refused 1.
 ghost use mathlib.Core.Path.{_≡_};
-ghost use lib.ListN.{length};
 ghost use Rattle.text.specs.Part.{Part};
 ghost use Rattle.job.specs.Areas.{refusedAt};
 ghost use Rattle.job.specs.Reading.{readingOf};
-ghost use Rattle.job.specs.Fault.{faultIn, faultOf};
+ghost use Rattle.job.specs.Fault.{atTheEnd, faultIn, faultOf};
 use curve::Mode;
 use refusal::Refusal;
 use site::Site;
@@ -52,6 +51,12 @@ pub enum JobAnswer {
     Refused { why: Refusal, line: usize },
 }
 
+// The places of a text at which a part of it starts and stops.
+pub struct Span {
+    pub from: usize,
+    pub to: usize,
+}
+
 // A job text read: the site stands beside the answer, and is empty beside a refusal.
 pub struct Reading {
     pub answer: JobAnswer,
@@ -87,9 +92,9 @@ pub fn read(text: &[u8]) -> Reading
     }
 }
 
-// The offending line of a text that is refused 1, without its line feed; an empty part at the end of any other text.
-pub fn fault(text: &[u8]) -> &[u8]
-    ensures { λ r. ⌜ Part (text .entry) (faultOf (now (text .entry)) .0) (faultOf (now (text .entry)) .1) r ⌝ }
+// Where the offending line of a text that is refused 1 lies, without its line feed; the end of any other text.
+pub fn fault_span(text: &[u8]) -> Span
+    ensures { λ r. ⌜ r ≡ faultOf (now (text .entry)) ⌝ }
 {
     let found = read(text);
     let answer = found.answer;
@@ -99,21 +104,36 @@ pub fn fault(text: &[u8]) -> &[u8]
     }
 }
 
-fn at_the_end(text: &[u8]) -> &[u8]
-    ensures { λ r. ⌜ Part (text .entry) (length (now (text .entry))) (length (now (text .entry))) r ⌝ }
+// That part of the text itself.
+pub fn fault(text: &[u8]) -> &[u8]
+    ensures { λ r. ⌜ Part (text .entry) (faultOf (now (text .entry)) .from) (faultOf (now (text .entry)) .to) r ⌝ }
 {
-    text::part(text, text.len(), text.len())
+    let span = fault_span(text);
+    text::part(text, span.from, span.to)
 }
 
-// The offending line of a refused text.
-fn offending(text: &[u8], why: Refusal, line: usize) -> &[u8]
-    ensures { λ r. ⌜ Part (text .entry) (faultIn (now (text .entry)) (JobAnswer.Refused why line) .0) (faultIn (now (text .entry)) (JobAnswer.Refused why line) .1) r ⌝ }
+fn at_the_end(text: &[u8]) -> Span
+    ensures { λ r. ⌜ r ≡ atTheEnd (now (text .entry)) ⌝ }
+{
+    Span {
+        from: text.len(),
+        to: text.len(),
+    }
+}
+
+// Where the offending line of a refused text lies.
+fn offending(text: &[u8], why: Refusal, line: usize) -> Span
+    ensures { λ r. ⌜ r ≡ faultIn (now (text .entry)) (JobAnswer.Refused why line) ⌝ }
 {
     if refusal::number(why) != 1 {
         return at_the_end(text);
     }
     if line < 1 {
-        return text::part(text, 0, 0);
+        return Span { from: 0, to: 0 };
     }
-    text::piece(text, b'\n', line - 1)
+    let from = text::start(text, b'\n', line - 1);
+    Span {
+        from,
+        to: text::next(text, b'\n', from),
+    }
 }

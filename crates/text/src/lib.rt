@@ -82,14 +82,14 @@ pub fn after(s: &[u8], b: u8) -> &[u8]
 }
 
 // The place of the first b at a place of s or behind it, or the end of s where there is none.
-fn next(s: &[u8], b: u8, from: usize) -> usize
+pub fn next(s: &[u8], b: u8, from: usize) -> usize
     ensures { λ r. ⌜ r ≡ nextOf b (now (s .entry)) from ⌝ }
 {
     from + first(part(s, from, s.len()), b)
 }
 
 // The place at which piece k of s between b begins, counted from 0: the end of s where there are fewer.
-fn start(s: &[u8], b: u8, k: usize) -> usize
+pub fn start(s: &[u8], b: u8, k: usize) -> usize
     ensures { λ r. ⌜ r ≡ startOf b (now (s .entry)) k ⌝ }
 {
     let mut from = 0;

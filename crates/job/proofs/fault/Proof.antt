@@ -1,41 +1,17 @@
--- `job::fault` meets its contract: the part is the one that the reading points to.
+-- `job::fault` meets its contract: the part lies where its span says.
 -- Assumes nothing.
-use Rattle.job.proofs.Faults.{fault-granted, fault-refused}
 use borrow.Author.Needs.{needs}
 use Rattle.job.proofs.fault.Statement.{statement}
 use Rattle.job.proofs.fault.Tie as tie
 
-read-requires : tie.Need-read-requires
-read-requires c κs = search needs
+fault-span-requires : tie.Need-fault-span-requires
+fault-span-requires c κs = search needs
 
-enum-told : tie.Need-enum-told
-enum-told c = search needs
-
-at-the-end-requires : tie.Need-at-the-end-requires
-at-the-end-requires c κs = search needs
-
-enum-known-answer : tie.Need-enum-known-answer
-enum-known-answer c = search needs
-
-offending-requires : tie.Need-offending-requires
-offending-requires c κs = search needs
+part-requires : tie.Need-part-requires
+part-requires c κs = search needs
 
 returns : tie.Need-returns
-returns c =
-    rw (fault-granted _ (c .before .before .before .read .ensures) (c .before .enum-told .given .1)) (c .at-the-end .ensures)
-
-returns-2 : tie.Need-returns-2
-returns-2 c =
-    rw (fault-refused _ (c .before .before .before .before .read .ensures) (c .before .before .answer .given .1)) (c .offending .ensures)
+returns c = rw (c .before .fault-span .ensures) at (c .part .ensures)
 
 pub fault-spec : {M : Type 1} → statement M
-fault-spec =
-    tie.close
-    (tie.spec
-    read-requires
-    enum-told
-    at-the-end-requires
-    enum-known-answer
-    offending-requires
-    returns
-    returns-2)
+fault-spec = tie.close (tie.spec fault-span-requires part-requires returns)

@@ -12,19 +12,19 @@ at-the-end-requires : tie.Need-at-the-end-requires
 at-the-end-requires c κs = search needs
 
 returns : tie.Need-returns
-returns c = rw (fault-none _ _ _ (c .before .before .number .ensures) (c .before .if1 .taken)) (c .at-the-end .ensures)
-
-part-requires : tie.Need-part-requires
-part-requires c κs = search needs
+returns c = search (fault-none, needs)
 
 returns-2 : tie.Need-returns-2
-returns-2 c = rw (fault-start _ _ _ (c .before .before .before .number .ensures) (c .before .before .if1 .left) (c .before .if2 .taken)) (c .part .ensures)
+returns-2 c = search (fault-start, needs)
 
-piece-requires : tie.Need-piece-requires
-piece-requires c κs = search needs
+start-requires : tie.Need-start-requires
+start-requires c κs = search needs
+
+next-requires : tie.Need-next-requires
+next-requires c κs = search needs
 
 returns-3 : tie.Need-returns-3
-returns-3 c = rw (fault-there _ _ _ (c .before .before .before .number .ensures) (c .before .before .if1 .left) (c .before .if2 .left)) (c .piece .ensures)
+returns-3 c = search (fault-there, needs)
 
 pub offending-spec : {M : Type 1} → statement M
 offending-spec =
@@ -33,7 +33,7 @@ offending-spec =
     number-requires
     at-the-end-requires
     returns
-    part-requires
     returns-2
-    piece-requires
+    start-requires
+    next-requires
     returns-3)
