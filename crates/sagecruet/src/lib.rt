@@ -1,0 +1,193 @@
+// The C interface: what the library answers, as numbers and texts. include/sagecruet.h says the same for C.
+ghost use mathlib.Core.Path.{_≡_};
+ghost use Rattle.sheet.specs.Sheet.{verdictOf};
+ghost use Rattle.curve.specs.Answers.{percentAnswer};
+ghost use Rattle.probe.specs.Readings.{rateOf};
+ghost use Rattle.job.specs.Fault.{faultOf};
+ghost use Rattle.answer.specs.Lines.{answerText};
+ghost use Rattle.answer.specs.Writing.{writtenOf, bufferOf};
+ghost use Rattle.calculator.specs.Outcome.{byTables, byLent, outcomeOf};
+ghost use Rattle.sagecruet.specs.Numbers.{ofWritten, ofSpan, ofVerdict, ofPercent, ofRate, modeOf, readingIn};
+use answer::Written;
+use curve::Mode;
+use curve::PercentAnswer;
+use probe::RateAnswer;
+use probe::Reading;
+use refusal::Refusal;
+use units::Depth;
+use units::Rate;
+
+// A part of a job text: the place of its first byte, and its length.
+#[repr(C)]
+pub struct Part {
+    pub from: usize,
+    pub len: usize,
+}
+
+// What the test of a sheet says: 0, or 5 with the list and the place.
+#[repr(C)]
+pub struct Verdict {
+    pub answer: u64,
+    pub list: u64,
+    pub place: u64,
+}
+
+// A number given back, and the value that was asked for.
+#[repr(C)]
+pub struct Value {
+    pub answer: u64,
+    pub value: u64,
+}
+
+// The length of what was written.
+fn of_written(written: Written) -> usize
+    ensures { λ r. ⌜ r ≡ ofWritten written ⌝ }
+{
+    match written {
+        Written::Granted(length) => length,
+        Written::Refused(_) => 0,
+    }
+}
+
+fn of_verdict(verdict: sheet::Verdict) -> Verdict
+    ensures { λ r. ⌜ r ≡ ofVerdict verdict ⌝ }
+{
+    match verdict {
+        sheet::Verdict::Fine => Verdict {
+            answer: 0,
+            list: 0,
+            place: 0,
+        },
+        sheet::Verdict::Unfit { list, place } => Verdict {
+            answer: refusal::number(Refusal::UnfitSheet),
+            list,
+            place: place as u64,
+        },
+    }
+}
+
+fn of_percent(found: PercentAnswer) -> Value
+    ensures { λ r. ⌜ r ≡ ofPercent found ⌝ }
+{
+    match found {
+        PercentAnswer::Granted(percent) => Value {
+            answer: 0,
+            value: percent.0,
+        },
+        PercentAnswer::BadSheet { list: _, place: _ } => Value {
+            answer: refusal::number(Refusal::UnfitSheet),
+            value: 0,
+        },
+        PercentAnswer::Refused(why) => Value {
+            answer: refusal::number(why),
+            value: 0,
+        },
+    }
+}
+
+fn of_rate(found: RateAnswer) -> Value
+    ensures { λ r. ⌜ r ≡ ofRate found ⌝ }
+{
+    match found {
+        RateAnswer::Granted(rate) => Value {
+            answer: 0,
+            value: rate.0,
+        },
+        RateAnswer::Refused(why) => Value {
+            answer: refusal::number(why),
+            value: 0,
+        },
+    }
+}
+
+fn mode_of(mix: bool) -> Mode
+    ensures { λ r. ⌜ r ≡ modeOf mix ⌝ }
+{
+    if mix {
+        return Mode::Mix;
+    }
+    Mode::Step
+}
+
+fn reading_in(millimetres: bool, reading: f32) -> Reading
+    ensures { λ r. ⌜ r ≡ readingIn millimetres reading ⌝ }
+{
+    if millimetres {
+        return Reading::MillimetresPerHour(reading);
+    }
+    Reading::InchesPerHour(reading)
+}
+
+// The answer text of a job on the published tables.
+#[no_mangle]
+pub extern "C" fn sagecruet_answer(text: &[u8], buf: &mut [u8]) -> usize
+    ensures { λ r. ⌜ r ≡ ofWritten (writtenOf (now (buf .entry)) (answerText (outcomeOf byTables (now (text .entry))))) ⌝ }
+    ensures { λ _. ⌜ now (buf .exit) ≡ bufferOf (now (buf .entry)) (answerText (outcomeOf byTables (now (text .entry)))) ⌝ }
+{
+    of_written(calculator::answer(text, buf))
+}
+
+// The answer text of a job on a lent sheet.
+#[no_mangle]
+pub extern "C" fn sagecruet_answer_on(
+    text: &[u8],
+    depths: &[u64],
+    rates: &[u64],
+    percents: &[u64],
+    buf: &mut [u8],
+) -> usize
+    ensures { λ r. ⌜ r ≡ ofWritten (writtenOf (now (buf .entry)) (answerText (outcomeOf (byLent (now (depths .entry)) (now (rates .entry)) (now (percents .entry))) (now (text .entry))))) ⌝ }
+    ensures { λ _. ⌜ now (buf .exit) ≡ bufferOf (now (buf .entry)) (answerText (outcomeOf (byLent (now (depths .entry)) (now (rates .entry)) (now (percents .entry))) (now (text .entry)))) ⌝ }
+{
+    of_written(calculator::answer_on(text, depths, rates, percents, buf))
+}
+
+// The offending part of a job text.
+#[no_mangle]
+pub extern "C" fn sagecruet_fault(text: &[u8]) -> Part
+    ensures { λ r. ⌜ r ≡ ofSpan (faultOf (now (text .entry))) ⌝ }
+{
+    let span = job::fault_span(text);
+    Part {
+        from: span.from,
+        len: span.to - span.from,
+    }
+}
+
+// The test of a sheet.
+#[no_mangle]
+pub extern "C" fn sagecruet_sheet(depths: &[u64], rates: &[u64], percents: &[u64]) -> Verdict
+    ensures { λ r. ⌜ r ≡ ofVerdict (verdictOf (now (depths .entry)) (now (rates .entry)) (now (percents .entry))) ⌝ }
+{
+    of_verdict(sheet::judge(depths, rates, percents))
+}
+
+// The percent of a sheet at a rate and a depth.
+#[no_mangle]
+pub extern "C" fn sagecruet_percent(
+    depths: &[u64],
+    rates: &[u64],
+    percents: &[u64],
+    mix: bool,
+    rate: u64,
+    depth: u64,
+) -> Value
+    ensures { λ r. ⌜ r ≡ ofPercent (percentAnswer (now (depths .entry)) (now (rates .entry)) (now (percents .entry)) (modeOf mix) rate depth) ⌝ }
+{
+    of_percent(curve::percent(
+        depths,
+        rates,
+        percents,
+        mode_of(mix),
+        Rate(rate),
+        Depth(depth),
+    ))
+}
+
+// The rate of a probe reading.
+#[no_mangle]
+pub extern "C" fn sagecruet_reading(millimetres: bool, reading: f32) -> Value
+    ensures { λ r. ⌜ r ≡ ofRate (rateOf (readingIn millimetres reading)) ⌝ }
+{
+    of_rate(probe::rate(reading_in(millimetres, reading)))
+}
