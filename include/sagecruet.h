@@ -52,7 +52,7 @@ struct sagecruet_value {
  *
  * The answer text is written at the start of `text`, with no zero byte after it, and its length is returned; no other
  * byte of `text` changes. Where `text_len` is less than the answer text needs (refusal 13), 0 is returned and `text`
- * keeps every byte. 168 bytes are room enough for any answer.
+ * keeps every byte. 147 bytes are room enough for any answer.
  *
  * A granted job answers six lines, a refused one two:
  *
