@@ -46,7 +46,7 @@ REFUSALS = {
     15: "a load or a volume is past 10^13",
 }
 
-ROOM = 168  # enough for any answer text
+ROOM = 147  # enough for any answer text
 
 
 class Sheet(NamedTuple):
