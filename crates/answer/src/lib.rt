@@ -27,6 +27,13 @@ pub enum Written {
 // The length of the longest text: a buffer of this size is never too short.
 pub const LONGEST: usize = 147;
 
+// The same as an answer: room for the text of any outcome.
+pub fn room() -> usize
+    ensures { λ r. ⌜ r ≡ longest ⌝ }
+{
+    LONGEST
+}
+
 // Writes the text of an outcome at the start of buf, refused 13 where buf is shorter.
 pub fn write(outcome: Outcome, buf: &mut [u8]) -> Written
     ensures { λ r. ⌜ r ≡ writtenOf (now (buf .entry)) (answerText outcome) ⌝ }

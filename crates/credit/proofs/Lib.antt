@@ -6,3 +6,4 @@ pub mod Depths
 pub mod Passing
 pub mod Opening
 pub mod Promises
+pub mod Granting

@@ -76,12 +76,12 @@ module _ (ds rs ps : List ℕ) (mode : Mode) (r : ℕ) (onward : Curves → Cred
       told (Unfit list place) f g = absurd (refusal-not-granted UnfitSheet g)
 
 -- and is worked out by the curves of the site rate.
-sheet-admitted : (ds rs ps : List ℕ) (mode : Mode) (r : ℕ) → curve.Granted ds rs ps r
+pub sheet-admitted : (ds rs ps : List ℕ) (mode : Mode) (r : ℕ) → curve.Granted ds rs ps r
     → admissionOf ds rs ps mode r ≡ admission.Admitted (curvesOf rs mode r)
 sheet-admitted ds rs ps mode r p = sym (fine-rated ds rs ps refl mode r (p .fine) (rate-taken rs mode refl (p .taken) (p .slowest) refl))
 
 -- what is wanted of sub-areas, by the percents of a sheet
-abbrev onPercents : Wanted → Nutrient → List SubArea → (ℕ → ℕ) → CreditAnswer
+abbrev pub onPercents : Wanted → Nutrient → List SubArea → (ℕ → ℕ) → CreditAnswer
 onPercents wanted n parts percents = worked wanted (loadOf (rates.ratesOf n) parts) (imperviousArea parts) (volumeOf parts) percents
 
 -- A site, a sheet and a rate that are refused nothing but an amount: whatever is wanted, its answer is worked out by the percents.

@@ -23,8 +23,9 @@ use Rattle.curve.proofs.Promises.{never-falls-with-rate}
 use Rattle.credit.specs.declared.CreditAnswer.the-variants.{Granted}
 use Rattle.credit.specs.Credit.{figuresOf, depthReaching}
 use Rattle.credit.specs.Answers.{Sheet, credit, size, answerOf, given, published}
+use Rattle.site.proofs.Promises as site
 use Rattle.published.proofs.FasterRates.{none-falls-with-rate}
-use Rattle.credit.specs.Promises.{depthsIn, ratesIn, percentsIn, percentOn, CreditIsByTheTables, SizeIsByTheTables, MoreStorageNeverLess, HigherTargetNeverSmaller, SizedIsLeast, UnreachableExactly, FasterSoilNeverLess, FasterSoilOnTheTables, SizingAgrees}
+use Rattle.credit.specs.Promises.{depthsIn, ratesIn, percentsIn, percentOn, CreditIsByTheTables, SizeIsByTheTables, MoreStorageNeverLess, HigherTargetNeverSmaller, SizedIsLeast, UnreachableExactly, FasterSoilNeverLess, FasterSoilOnTheTables, SizingAgrees, PastCountUnread}
 use Rattle.credit.proofs.Depths.{depth-mono, depth-below, depth-back, before-reaching, reaching-mono, reaching-on-grid, reaching-reaches}
 use Rattle.credit.proofs.Opening.{Open, granted-opens, credit-within, credit-is, size-within, size-is, size-unreachable, percent-mono}
 
@@ -120,3 +121,7 @@ unreachable-exactly sheet n s mode r target h g =
 pub faster-soil-on-the-tables : FasterSoilOnTheTables
 faster-soil-on-the-tables practice n s mode r q v =
     faster-soil-never-less (published practice) n s mode r q v (none-falls-with-rate practice n)
+
+pub past-count-unread : PastCountUnread
+unfolding answerOf
+past-count-unread sheet wanted n s t mode r a = rw (site.past-count-unread s t a .0, a .parts)

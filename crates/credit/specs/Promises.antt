@@ -2,23 +2,30 @@
 -- every rate and both modes, through the numbers and values that are given back. Proved in proofs/Promises.antt.
 -- Assumes nothing.
 use Prim.Native.Nat.{ℕ, _≤_, _<_}
+use mathlib.Core.Bool.{Bool, true}
 use mathlib.Core.List.{List}
 use mathlib.Core.Logic.{_↔_}
 use mathlib.Core.Path.{_≡_}
 use Rattle.refusal.specs.Refusal.{numberOf, granted}
 use Rattle.refusal.specs.declared.Refusal.the-variants.{TargetUnreachable}
 use Rattle.units.specs.declared.Nutrient.{Nutrient}
-use Rattle.units.specs.Limits.{largest, mostPercent}
+use Rattle.units.specs.declared.Area.{Area}
+use Rattle.units.specs.Limits.{largest, mostPercent, highestDepth}
 use Rattle.site.specs.declared.Site.{Site}
-use Rattle.site.specs.Parts.{partsOf}
+use Rattle.site.specs.declared.AreaAnswer.the-variants as area
+use Rattle.site.specs.Parts.{partsOf, imperviousArea}
+use Rattle.site.specs.Judging.{judged}
+use Rattle.site.specs.Promises.{Alike}
 use Rattle.loads.specs.Rates as rates
 use Rattle.loads.specs.Loads.{loadOf, removedOf}
 use Rattle.volume.specs.Volume.{volumeOf, depthOf}
 use Rattle.curve.specs.declared.Mode.{Mode}
 use Rattle.curve.specs.Curve.{percentOf}
 use Rattle.curve.specs.Promises.{FasterIsNoLess}
+use Rattle.curve.specs.Promises as curve
 use Rattle.published.specs.Tables.{depths}
-use Rattle.published.specs.Published.{ratesOf, percentsOf}
+use Rattle.published.specs.Published.{ratesOf, percentsOf, isPublished}
+use Rattle.credit.specs.declared.Wanted.{Wanted}
 use Rattle.credit.specs.Credit.{depthReaching}
 use Rattle.credit.specs.Answers.{Sheet, lent, published, credit, size, answerOf, Given, given}
 
@@ -45,6 +52,34 @@ percentsIn (published practice) n = percentsOf practice n
 -- the percent of a sheet at a site rate and a depth
 abbrev pub percentOn : Sheet → Nutrient → Mode → ℕ → ℕ → ℕ
 percentOn sheet n mode r d = percentOf (depthsIn sheet) (ratesIn sheet n) (percentsIn sheet n) mode r d
+
+-- the practice has a published sheet; a lent sheet is always there
+abbrev pub isThere : Sheet → Nutrient → Bool
+isThere (lent ds rs ps) n = true
+isThere (published practice) n = isPublished practice n
+
+-- A site record, a sheet and a rate that are refused nothing: not 14, 2 or 3, not 4 or 5, not 6 or 7, not 8 and not 15.
+pub record Accepted (sheet : Sheet) (n : Nutrient) (s : Site) (r : ℕ) : Type 0 where
+  pub total : Area
+  pub fine : judged s ≡ area.Granted total
+  pub there : isThere sheet n ≡ true
+  pub rated : curve.Granted (depthsIn sheet) (ratesIn sheet n) (percentsIn sheet n) r
+  pub impervious : 0 < imperviousArea (partsOf s)
+  pub load-fits : loadOf (rates.ratesOf n) (partsOf s) ≤ largest
+  pub volume-fits : volumeOf (partsOf s) highestDepth ≤ largest
+
+-- Demand 2, what is granted: a credit exactly where all is accepted and the volume is within the limit,
+abbrev pub CreditGrantedExactly : Type 0
+CreditGrantedExactly =
+    (sheet : Sheet) (n : Nutrient) (s : Site) (mode : Mode) (r v : ℕ)
+    → (Credited sheet n s mode r v .answer ≡ granted) ↔ (Accepted sheet n s r × (v ≤ largest))
+
+-- and a size exactly where all is accepted and the target is at most 100 percent and at most the percent at depth 200.
+abbrev pub SizeGrantedExactly : Type 0
+SizeGrantedExactly =
+    (sheet : Sheet) (n : Nutrient) (s : Site) (mode : Mode) (r target : ℕ)
+    → (Sized sheet n s mode r target .answer ≡ granted)
+    ↔ (Accepted sheet n s r × (target ≤ mostPercent) × (target ≤ percentOn sheet n mode r highestDepth))
 
 -- Demand 2, from volume to credit: "Loads, credits and design volumes equal those of the EPA document by its tables and equations."
 abbrev pub CreditIsByTheTables : Type 0
@@ -134,3 +169,10 @@ SizingAgrees =
     (sheet : Sheet) (n : Nutrient) (s : Site) (mode : Mode) (r target : ℕ)
     → Sized sheet n s mode r target .answer ≡ granted
     → Credited sheet n s mode r (Sized sheet n s mode r target .volume) ≡ Sized sheet n s mode r target
+
+-- "What stands in the record past its count changes no answer."
+abbrev pub PastCountUnread : Type 0
+PastCountUnread =
+    (sheet : Sheet) (wanted : Wanted) (n : Nutrient) (s t : Site) (mode : Mode) (r : ℕ)
+    → Alike s t
+    → answerOf sheet wanted n s mode r ≡ answerOf sheet wanted n t mode r

@@ -84,6 +84,12 @@ reachFrom ds ps target (admission.Refused r) = reach.Refused r
 abbrev pub reachOf : List ℕ → List ℕ → List ℕ → Mode → ℕ → ℕ → Reached
 reachOf ds rs ps mode r target = reachFrom ds ps target (admissionOf ds rs ps mode r)
 
+-- the paper's number, list and place
+abbrev pub admissionGiven : Admission → ℕ × ℕ × ℕ
+admissionGiven (admission.Admitted c) = (granted, 0, 0)
+admissionGiven (admission.BadSheet list place) = (numberOf UnfitSheet, list, place)
+admissionGiven (admission.Refused r) = (numberOf r, 0, 0)
+
 -- the paper's number, percent, list and place
 abbrev pub given : PercentAnswer → ℕ × ℕ × ℕ × ℕ
 given (percent.Granted p) = (granted, p .0, 0, 0)

@@ -11,15 +11,8 @@ use lib.Dec.{eqb}
 use lib.ListN.{length, getD}
 use lib.Seq.{ext-getD}
 use borrow.Author.Tests.{eqb-true}
+use Rattle.laws.proofs.And.{and-left, and-right}
 use Rattle.laws.specs.Table.{everyFrom, every, valuesFrom, tableOf}
-
-and-left : (a b : Bool) → (a && b) ≡ true → a ≡ true
-and-left true b e = refl
-and-left false b e = e
-
-and-right : (a b : Bool) → (a && b) ≡ true → b ≡ true
-and-right true b e = e
-and-right false b e = cc
 
 carry-from : (test : ℕ → ℕ → Bool) (xs : List ℕ) (k : ℕ) → everyFrom test k xs ≡ true → (i : ℕ) → i < length xs → test (k + i) (getD xs i 0) ≡ true
 carry-from test [] k e i h = absurd (not-suc-le-zero h)

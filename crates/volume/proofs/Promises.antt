@@ -9,8 +9,10 @@ use Rattle.site.specs.declared.LandUse.the-variants.{Com}
 use Rattle.site.specs.declared.Cover.the-variants.{Imp, Per}
 use Rattle.site.specs.declared.Soil.the-variants.{B, C, NoSoil}
 use Rattle.site.specs.declared.SubArea.{SubArea}
+use Rattle.site.proofs.Promises as site
 use Rattle.volume.specs.Volume.{volumeOf}
-use Rattle.volume.specs.Promises.{StartsAtZero, NeverFalls, RisesStrictly, Fits, LargestDepth}
+use Rattle.volume.specs.Answers.{volumeAnswer, depthAnswer}
+use Rattle.volume.specs.Promises.{StartsAtZero, NeverFalls, RisesStrictly, Fits, LargestDepth, PastCountUnread}
 use Rattle.volume.proofs.Rising.{volume-zero, volume-rises, volume-strict, volume-fits}
 use Rattle.volume.proofs.Reaching.{depth-on-grid, depth-within, depth-largest}
 
@@ -28,6 +30,13 @@ fits = volume-fits
 
 pub largest-depth : LargestDepth
 largest-depth ps v = (depth-on-grid ps v, depth-within ps v, depth-largest ps v)
+
+pub past-count-unread : PastCountUnread
+unfolding volumeAnswer depthAnswer
+past-count-unread s t r =
+    let e = site.past-count-unread s t r .0 in
+    let p = r .parts in
+    (λ d. simp (e, p), λ v. simp (e, p))
 
 -- impervious 257
 abbrev pub lot : List SubArea

@@ -6,7 +6,12 @@ use mathlib.Core.Path.{_≡_}
 use Rattle.units.specs.Limits.{mostArea, largest, highestDepth}
 use Rattle.site.specs.declared.SubArea.{SubArea}
 use Rattle.site.specs.Parts.{totalArea, imperviousArea}
+use Rattle.site.specs.declared.Site.{Site}
+use Rattle.site.specs.Promises.{Alike}
+use Rattle.units.specs.declared.Depth.{Depth}
+use Rattle.units.specs.declared.Volume.{Volume}
 use Rattle.volume.specs.Volume.{volumeOf, depthOf}
+use Rattle.volume.specs.Answers.{volumeAnswer, depthAnswer}
 
 -- "V(0) = 0"
 abbrev pub StartsAtZero : Type 0
@@ -31,3 +36,8 @@ LargestDepth =
     → (depthOf ps v ≤ highestDepth)
     × (volumeOf ps (depthOf ps v) ≤ v)
     × ((d : ℕ) → d ≤ highestDepth → volumeOf ps d ≤ v → d ≤ depthOf ps v)
+
+-- What stands in the record past its count changes neither V nor the depth of a volume.
+abbrev pub PastCountUnread : Type 0
+PastCountUnread =
+    (s t : Site) → Alike s t → ((d : Depth) → volumeAnswer s d ≡ volumeAnswer t d) × ((v : Volume) → depthAnswer s v ≡ depthAnswer t v)
