@@ -2,35 +2,106 @@
 -- Assumes nothing.
 use Prim.Native.Nat.{ℕ, _+_, _≤_, _<_}
 use mathlib.Core.Bool.{Bool, true, false, not}
-use mathlib.Core.Path.{_≡_, sym, _∙_}
-use borrow.Author.Tests.{le-ltb, lt-ltb, not-true, not-false}
+use mathlib.Core.Path.{_≡_, refl, sym, _∙_, ap}
+use mathlib.Core.List.{[], _∷_}
+use lib.Dec.{ltb}
+use borrow.Author.Tests.{le-ltb, lt-ltb, ltb-true, leb-true, not-true, not-false}
+use Rattle.laws.specs.Turn.{inTurn}
+use Rattle.refusal.specs.declared.Refusal.{Refusal}
 use Rattle.refusal.specs.declared.Refusal.the-variants.{UnfitSubArea, TotalAreaPassed, SiteFull}
 use Rattle.units.specs.declared.Area.{Area}
+use Rattle.units.specs.Limits.{mostArea}
 use Rattle.site.specs.declared.SubArea.{SubArea}
 use Rattle.site.specs.declared.Site.{Site}
-use Rattle.site.specs.declared.AreaAnswer.the-variants.{Granted}
+use Rattle.site.specs.declared.Added.{Added}
+use Rattle.site.specs.declared.AreaAnswer.{AreaAnswer}
+use Rattle.site.specs.declared.AreaAnswer.the-variants.{Granted, Refused}
 use Rattle.site.specs.Parts.{areaOf, mostParts}
-use Rattle.site.specs.Judging.{fits, hasRoom, judged}
-use Rattle.site.specs.Adding.{kept, enlarged, addedTo, added}
+use Rattle.site.specs.Judging.{fits, hasRoom, judged, afterJudging}
+use Rattle.site.specs.Adding.{kept, stored, addAnswer, addedTo, added}
+use Rattle.site.proofs.Judging.{never-granted}
 
-module _ (s : Site) (total : ℕ) (p : SubArea) {b : Bool} (e : b ≡ fits p) where
-  pub add-unfit : not b ≡ true → kept s UnfitSubArea ≡ addedTo s total p
-  unfolding addedTo
+module _ (count total : ℕ) (p : SubArea) {b : Bool} (e : b ≡ fits p) where
+  pub add-unfit : not b ≡ true → Refused UnfitSubArea ≡ addAnswer count total p
+  unfolding addAnswer
   add-unfit f = simp (sym e ∙ not-true _ f)
 
-  pub add-full : not b ≡ false → mostParts ≤ s .count → kept s SiteFull ≡ addedTo s total p
-  unfolding addedTo
+  pub add-full : not b ≡ false → mostParts ≤ count → Refused SiteFull ≡ addAnswer count total p
+  unfolding addAnswer
   add-full f h = simp (sym e ∙ not-false _ f, le-ltb _ _ h)
 
-  pub add-crowded : not b ≡ false → s .count < mostParts → {d : Bool} → d ≡ hasRoom total (areaOf p) → not d ≡ true
-      → kept s TotalAreaPassed ≡ addedTo s total p
-  unfolding addedTo
+  pub add-crowded : not b ≡ false → count < mostParts → {d : Bool} → d ≡ hasRoom total (areaOf p) → not d ≡ true
+      → Refused TotalAreaPassed ≡ addAnswer count total p
+  unfolding addAnswer
   add-crowded f h e' f' = simp (sym e ∙ not-false _ f, lt-ltb _ _ h, sym e' ∙ not-true _ f')
 
-  pub add-granted : not b ≡ false → s .count < mostParts → {d : Bool} → d ≡ hasRoom total (areaOf p) → not d ≡ false
-      → record { answer = Granted (record { 0 = total + areaOf p }); site = enlarged s p } ≡ addedTo s total p
-  unfolding addedTo
+  pub add-granted : not b ≡ false → count < mostParts → {d : Bool} → d ≡ hasRoom total (areaOf p) → not d ≡ false
+      → Granted (record { 0 = total + areaOf p }) ≡ addAnswer count total p
+  unfolding addAnswer
   add-granted f h e' f' = simp (sym e ∙ not-false _ f, lt-ltb _ _ h, sym e' ∙ not-false _ f')
+
+-- What a granted answer tells: the sub-area fits, there is a place for it, and the new total is at most the largest area.
+pub record Grants (count total : ℕ) (p : SubArea) (a : Area) : Type 0 where
+  pub fit : fits p ≡ true
+  pub place : count < mostParts
+  pub within : total + areaOf p ≤ mostArea
+  pub new-total : record { 0 = total + areaOf p } ≡ a
+
+pub grants : (count total : ℕ) (p : SubArea) (a : Area) → addAnswer count total p ≡ Granted a → Grants count total p a
+unfolding addAnswer
+grants count total p a = told (fits p) (ltb count mostParts) (hasRoom total (areaOf p)) refl refl refl
+  where
+    told : (b d e : Bool) → fits p ≡ b → ltb count mostParts ≡ d → hasRoom total (areaOf p) ≡ e
+        → inTurn Refused (Granted (record { 0 = total + areaOf p })) ((b, UnfitSubArea) ∷ (d, SiteFull) ∷ (e, TotalAreaPassed) ∷ []) ≡ Granted a
+        → Grants count total p a
+    told true true true f g h x =
+        record {
+          fit = f;
+          place = ltb-true count mostParts g;
+          within = leb-true (total + areaOf p) mostArea h;
+          new-total = ap (afterJudging (λ why. a) (λ n. record { 0 = n })) x;
+        }
+    told true true false f g h x = absurd (never-granted x)
+    told true false e f g h x = absurd (never-granted x)
+    told false d e f g h x = absurd (never-granted x)
+
+-- Where an add is granted there is a place for the sub-area at the count.
+pub granted-place : (count total : ℕ) (p : SubArea) {x : AreaAnswer} {a : Area} → x ≡ addAnswer count total p → x ≡ Granted a → count < mostParts
+granted-place count total p {x} {a} e f = grants count total p a (sym e ∙ f) .place
+
+-- what goes with an answer: the site with the sub-area stored, or as it was
+abbrev pub settled : Site → SubArea → AreaAnswer → Added
+settled s p (Granted total) = record { answer = Granted total; site = stored s p }
+settled s p (Refused why) = kept s why
+
+-- An add gives its answer and what goes with it.
+pub add-settles : (s : Site) (total : ℕ) (p : SubArea) → addedTo s total p ≡ settled s p (addAnswer (s .count) total p)
+unfolding addedTo addAnswer
+add-settles s total p = told (fits p) (ltb (s .count) mostParts) (hasRoom total (areaOf p))
+  where
+    told : (b d e : Bool)
+        → inTurn (kept s) (record { answer = Granted (record { 0 = total + areaOf p }); site = stored s p })
+        ((b, UnfitSubArea) ∷ (d, SiteFull) ∷ (e, TotalAreaPassed) ∷ [])
+        ≡ settled s p (inTurn Refused (Granted (record { 0 = total + areaOf p })) ((b, UnfitSubArea) ∷ (d, SiteFull) ∷ (e, TotalAreaPassed) ∷ []))
+    told true true true = refl
+    told true true false = refl
+    told true false e = refl
+    told false d e = refl
+
+pub add-answers : (s : Site) (total : ℕ) (p : SubArea) → addedTo s total p .answer ≡ addAnswer (s .count) total p
+add-answers s total p = rw (add-settles s total p) (told (addAnswer (s .count) total p))
+  where
+    told : (x : AreaAnswer) → settled s p x .answer ≡ x
+    told (Granted a) = refl
+    told (Refused why) = refl
+
+-- Whoever has the answer and stores the sub-area where it is granted has what the add gives.
+module _ (s : Site) (total : ℕ) (p : SubArea) {x : AreaAnswer} (e : x ≡ addAnswer (s .count) total p) where
+  pub add-stores : {a : Area} → x ≡ Granted a → record { answer = x; site = stored s p } ≡ addedTo s total p
+  add-stores f = rw (add-settles s total p, ← e, f) refl
+
+  pub add-keeps : {why : Refusal} → x ≡ Refused why → record { answer = x; site = s } ≡ addedTo s total p
+  add-keeps f = rw (add-settles s total p, ← e, f) refl
 
 -- Where a record is judged fine with a total area, the add that is told this total gives what the public add gives.
 pub add-agrees : (s : Site) (p : SubArea) (total : Area) → judged s ≡ Granted total → addedTo s (total .0) p ≡ added s p

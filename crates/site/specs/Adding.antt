@@ -1,7 +1,8 @@
 -- 01, "Site and load" and "The numbers given back": adding a sub-area tries 2, 14, 3 and hands the site back.
 -- Assumes nothing.
 use Prim.Native.Nat.{ℕ, _+_}
-use mathlib.Core.List.{[], _∷_}
+use mathlib.Core.Bool.{Bool}
+use mathlib.Core.List.{List, [], _∷_}
 use lib.Dec.{ltb}
 use lib.ListN.{set}
 use Rattle.laws.specs.Turn.{inTurn}
@@ -10,27 +11,41 @@ use Rattle.refusal.specs.declared.Refusal.the-variants.{UnfitSubArea, TotalArea
 use Rattle.site.specs.declared.SubArea.{SubArea}
 use Rattle.site.specs.declared.Site.{Site}
 use Rattle.site.specs.declared.Added.{Added}
+use Rattle.site.specs.declared.AreaAnswer.{AreaAnswer}
 use Rattle.site.specs.declared.AreaAnswer.the-variants.{Granted, Refused}
 use Rattle.site.specs.Parts.{mostParts, areaOf}
 use Rattle.site.specs.Judging.{fits, hasRoom, judged, afterJudging, given}
 
+-- what an add tries in turn, 2, 14, 3, of a site of so many sub-areas and the total area that is given
+abbrev pub addTests : ℕ → ℕ → SubArea → List (Bool × Refusal)
+addTests count total p =
+    (fits p, UnfitSubArea)
+    ∷ (ltb count mostParts, SiteFull)
+    ∷ (hasRoom total (areaOf p), TotalAreaPassed)
+    ∷ []
+
+-- what an add answers: the new total area, or the refusal
+unfoldable pub addAnswer : ℕ → ℕ → SubArea → AreaAnswer
+addAnswer count total p = inTurn Refused (Granted (record { 0 = total + areaOf p })) (addTests count total p)
+
 -- an add writes only the place at the count, and the count rises by one
+abbrev pub stored : Site → SubArea → Site
+stored s p = record { parts = set (s .parts) (s .count) p; count = s .count + 1 }
+
+-- the site that a granted add hands back
 abbrev pub enlarged : Site → SubArea → Site
-enlarged s p = record { parts = set (s .parts) (s .count) p; count = s .count + 1 }
+enlarged = stored
 
 -- a refused add hands back the site as it was, past the count too
 abbrev pub kept : Site → Refusal → Added
 kept s why = record { answer = Refused why; site = s }
 
--- adding to a site of the total area that is given, which tries 2, 14, 3; a granted add answers with the new total area
+-- adding to a site of the total area that is given: the answer, beside the site with the sub-area stored or as it was
 unfoldable pub addedTo : Site → ℕ → SubArea → Added
 addedTo s total p =
     inTurn (kept s)
-    (record { answer = Granted (record { 0 = total + areaOf p }); site = enlarged s p })
-    ((fits p, UnfitSubArea)
-    ∷ (ltb (s .count) mostParts, SiteFull)
-    ∷ (hasRoom total (areaOf p), TotalAreaPassed)
-    ∷ [])
+    (record { answer = Granted (record { 0 = total + areaOf p }); site = stored s p })
+    (addTests (s .count) total p)
 
 -- adding to a site record, which is judged before all else
 unfoldable pub added : Site → SubArea → Added

@@ -3,7 +3,7 @@ ghost use mathlib.Core.Path.{_≡_};
 ghost use Rattle.site.specs.Soils.{named, suits, columnOf, loadColumn, runoffColumn};
 ghost use Rattle.site.specs.Parts.{partsOf, imperviousOf, imperviousArea, emptySite};
 ghost use Rattle.site.specs.Judging.{fits, hasRoom, judged, Fine, impervious};
-ghost use Rattle.site.specs.Adding.{addedTo, added};
+ghost use Rattle.site.specs.Adding.{addAnswer, addedTo, added};
 use refusal::Refusal;
 use units::Area;
 use units::Column;
@@ -226,37 +226,39 @@ pub fn impervious_area(site: Site) -> AreaAnswer
     }
 }
 
+// What an add answers, to a site of so many sub-areas and the total area that is given: the new total, or the refusal. Where
+// it is granted there is a place for the sub-area at the count.
+pub fn add_answer(count: usize, total: Area, part: SubArea) -> AreaAnswer
+    ensures { λ r. ⌜ r ≡ addAnswer count (total .0) part ⌝ }
+{
+    if !part_fits(part) {
+        return AreaAnswer::Refused(Refusal::UnfitSubArea);
+    }
+    if MOST_PARTS <= count {
+        return AreaAnswer::Refused(Refusal::SiteFull);
+    }
+    let area = part.area;
+    if !has_room(total.0, area.0) {
+        return AreaAnswer::Refused(Refusal::TotalAreaPassed);
+    }
+    AreaAnswer::Granted(Area(total.0 + area.0))
+}
+
 // The add for whoever carries the total area of a site that is judged fine: nothing is judged anew. A granted answer
 // has the new total.
 pub fn add_to(site: Site, total: Area, part: SubArea) -> Added
     ensures { λ r. ⌜ r ≡ addedTo site (total .0) part ⌝ }
 {
-    if !part_fits(part) {
-        return Added {
-            answer: AreaAnswer::Refused(Refusal::UnfitSubArea),
-            site,
-        };
-    }
     let count = site.count;
-    if MOST_PARTS <= count {
-        return Added {
-            answer: AreaAnswer::Refused(Refusal::SiteFull),
-            site,
-        };
-    }
-    let area = part.area;
-    if !has_room(total.0, area.0) {
-        return Added {
-            answer: AreaAnswer::Refused(Refusal::TotalAreaPassed),
-            site,
-        };
-    }
-    let mut next = site;
-    next.parts[count] = part;
-    next.count = count + 1;
-    Added {
-        answer: AreaAnswer::Granted(Area(total.0 + area.0)),
-        site: next,
+    let answer = add_answer(count, total, part);
+    match answer {
+        AreaAnswer::Granted(_) => {
+            let mut next = site;
+            next.parts[count] = part;
+            next.count = count + 1;
+            Added { answer, site: next }
+        }
+        AreaAnswer::Refused(_) => Added { answer, site },
     }
 }
 
