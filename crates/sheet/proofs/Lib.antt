@@ -1,4 +1,5 @@
 pub mod Steps
+pub mod Carrying
 pub mod Lengths
 pub mod Verdicts
 pub mod Rules

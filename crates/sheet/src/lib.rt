@@ -1,5 +1,6 @@
 // 01, "Curve sheets": the test of a sheet, lent as its depths, its rates, and its percents rate by rate.
 ghost use Prim.Native.Nat.{_%_};
+ghost use mathlib.Core.Bool.{cond};
 ghost use mathlib.Core.Path.{_≡_};
 ghost use lib.Dec.{eqb};
 ghost use Rattle.sheet.specs.Sheet.{previous, inStep, offending, lengthsFit, offendingRate, withoutRates, verdictOf};
@@ -51,18 +52,42 @@ fn in_step(gap: u64, most: u64, low: u64, x: u64) -> bool
     gap <= x - low
 }
 
-// The first place in rows of n whose number is not in step, or the length.
+// The place in its row of n, where `place` counts up to n: n is the start of the next row.
+fn in_row(n: usize, place: usize) -> usize
+    ensures { λ r. ⌜ r ≡ cond (eqb place n) 0 place ⌝ }
+{
+    if place == n {
+        return 0;
+    }
+    place
+}
+
+// What stands before a place of a row: 0 at its start, else the number x that came before.
+fn low_at(place: usize, x: u64) -> u64
+    ensures { λ r. ⌜ r ≡ cond (eqb place 0) 0 x ⌝ }
+{
+    if place == 0 {
+        return 0;
+    }
+    x
+}
+
+// The first place in rows of n whose number is not in step, or the length. The walk carries the place in the row and the
+// number before.
 fn offending(xs: &[u64], n: usize, gap: u64, most: u64) -> usize
     ensures { λ r. ⌜ r ≡ offending (now (xs .entry)) n gap most ⌝ }
 {
+    let mut place = 0;
+    let mut low: u64 = 0;
     let mut i = 0;
     while i < xs.len() {
-        let low = previous(xs, n, i);
-        if in_step(gap, most, low, xs[i]) {
-            i += 1;
-        } else {
+        let x = xs[i];
+        if !in_step(gap, most, low, x) {
             return i;
         }
+        place = in_row(n, place + 1);
+        low = low_at(place, x);
+        i += 1;
     }
     i
 }
