@@ -1,18 +1,21 @@
--- A number's digits: the last is its rest by ten, and those before it are the digits of its tenth.
+-- A number's digits: the last is its rest by ten, and those before it are the digits of its tenth. How many there are, and how they
+-- are put into a buffer from the last to the first.
 -- Assumes nothing.
-use Prim.Native.Nat.{ℕ, zero, suc, _+_, _*_, _/_, _%_, _^_, _≤_, _<_}
-use mathlib.Core.Path.{_≡_, refl, sym, ap}
-use mathlib.Core.List.{[], _∷_, _++_}
+use Prim.Native.Nat.{ℕ, zero, suc, _+_, _-_, _*_, _/_, _%_, _^_, _≤_, _<_}
+use mathlib.Core.Path.{_≡_, refl, sym, _∙_, ap}
+use mathlib.Core.List.{List, [], _∷_, _++_}
 use mathlib.Core.Logic.{⊎-elim}
-use native.Mathlib.Numerals.{unary-clauses}
-use native.Mathlib.Nat.{pow-suc, one-le-pow, div-lt-iff-lt-mul, le-div-iff-mul-le, mod-lt, mod-eq-of-lt}
+use native.Mathlib.Numerals.{add-one}
+use native.Mathlib.Nat.{pow-suc, one-le-pow, div-lt-iff-lt-mul, le-div-iff-mul-le}
 use native.Mathlib.Omega.{arith}
-use lib.ListN.{length, length-append}
+use lib.ListN.{length, set, length-append, length-set}
 use borrow.Author.Tests.{lt-ltb, le-ltb}
-use Rattle.io.specs.Digits.{digits, Fewest}
 use Rattle.laws.proofs.Order.{lt-or-le}
 use Rattle.text.specs.Numbers.{digitZero, decimalFrom, decimalOf}
 use Rattle.answer.specs.Lines.{widest}
+use Rattle.answer.specs.Writing.{pasted}
+use Rattle.answer.specs.Putting.{Room, Put}
+use Rattle.answer.proofs.Pasting.{pasted-byte, pasted-before}
 
 -- how far the digits are looked for does not matter, once it is far enough
 far-enough : (k j n : ℕ) → n ≤ k → n ≤ j → decimalFrom k n ≡ decimalFrom j n
@@ -36,6 +39,10 @@ last-digit (suc n) h = rw (le-ltb (suc n) 10 h, far-enough n (suc n / 10) (suc n
 pub one-more : (n : ℕ) → 10 ≤ n → length (decimalOf n) ≡ length (decimalOf (n / 10)) + 1
 one-more n h = rw (last-digit n h) (length-append (decimalOf (n / 10)) ((digitZero + n % 10) ∷ []))
 
+-- every number has a digit
+pub some-digit : (n : ℕ) → 1 ≤ length (decimalOf n)
+some-digit n = ⊎-elim (λ (l : n < 10). rw (one-digit n l) (omega arith)) (λ (m : 10 ≤ n). let e = one-more n m in omega arith) (lt-or-le n 10)
+
 tenth-below : (n k : ℕ) → n < 10 ^ suc (suc k) → n / 10 < 10 ^ suc k
 tenth-below n k h = div-lt-iff-lt-mul {k = 10} {x = n} {y = 10 ^ suc k} (omega arith) .1 (rw (pow-suc 10 (suc k)) at h)
 
@@ -54,44 +61,112 @@ few-digits (suc j) n h =
 pub word-digits : (n : ℕ) → n < 2 ^ 64 → length (decimalOf n) ≤ widest
 word-digits n h = few-digits 19 n (omega arith)
 
--- so many digits of n were counted, and those of rest are left but for the first
-pub record Counted (n count rest : ℕ) : Type 0 where
-  pub sum : count + length (decimalOf rest) ≡ length (decimalOf n) + 1
-
-pub counted-none : {n : ℕ} → Counted n 1 n
-counted-none {n} = record { sum = omega arith }
-
-pub counted-next : {n count rest : ℕ} → Counted n count rest → 10 ≤ rest → Counted n (count + 1) (rest / 10)
-counted-next {n} {count} {rest} p h =
-    let e = one-more rest h in
-    let s = p .sum in
-    record { sum = omega arith }
-
-pub counted-few : {n count rest : ℕ} → Counted n count rest → n < 2 ^ 64 → 10 ≤ rest → count ≤ widest
-counted-few {n} {count} {rest} p w h =
-    let e = one-more rest h in
-    let f = word-digits n w in
-    let s = p .sum in
+-- a number that is 10 ^ j or more has more than j digits
+pub many-digits : (j n : ℕ) → 10 ^ j ≤ n → suc j ≤ length (decimalOf n)
+many-digits zero n h = some-digit n
+many-digits (suc j) n h =
+    let tens : 10 ^ j * 10 ≤ n = rw (pow-suc 10 j) at h in
+    let one = one-le-pow j 10 (omega arith) in
+    let f = many-digits j (n / 10) (le-div-iff-mul-le {k = 10} {x = 10 ^ j} {y = n} (omega arith) .1 tens) in
+    let e = one-more n (omega arith) in
     omega arith
 
-pub counted-all : {n count rest : ℕ} → Counted n count rest → rest < 10 → count ≡ length (decimalOf n)
-counted-all {n} {count} {rest} p h =
-    let e = ap length (one-digit rest h) in
-    let s = p .sum in
-    omega arith
+-- n has so many digits or more, and this power of ten has so many
+pub record Counted (n count power : ℕ) : Type 0 where
+  pub powers : power * 10 ≡ 10 ^ count
+  pub least : count ≤ length (decimalOf n)
 
--- the last k + 1 digits of a number that has so many are its digits
-all-digits : (k n : ℕ) → n < 10 ^ suc k → (0 < k → 10 ^ k ≤ n) → digits 10 (suc k) n ≡ decimalOf n
-all-digits zero n high low = rw (mod-eq-of-lt high, lt-ltb n 10 high) (sym (one-digit n high))
-all-digits (suc k) n high low =
-    let power = pow-suc 10 k in
-    let one = one-le-pow k 10 (omega arith) in
-    let tens : 10 ^ k * 10 ≤ n = rw power at (low (omega arith)) in
-    let tenth : 10 ^ k ≤ n / 10 = le-div-iff-mul-le {k = 10} {x = 10 ^ k} {y = n} (omega arith) .1 tens in
-    rw (all-digits k (n / 10) (tenth-below n k high) (λ (h : 0 < k). tenth), lt-ltb (n % 10) 10 (mod-lt n (omega arith)))
-    (sym (last-digit n (omega arith)))
+pub counted-one : {n : ℕ} → Counted n 1 1
+counted-one {n} = record { powers = refl; least = some-digit n }
 
--- What the kit's writer spells, the fewest digits that hold a number, are its digits.
-pub spelled : (k n : ℕ) → Fewest 10 1 n k → digits 10 k n ≡ decimalOf n
-spelled zero n f = absurd (omega arith)
-spelled (suc k) n f = all-digits k n (f .1) (λ (h : 0 < k). simp unary-clauses at (f .2 (omega arith)))
+module _ {n count power : ℕ} (p : Counted n count power) where
+  module _ (h : power ≤ n / 10) where
+    tens : 10 ^ count ≤ n
+    tens = rw (← p .powers) (omega arith)
+
+    pub counted-next : Counted n (count + 1) (power * 10)
+    counted-next = record { powers = rw (p .powers, add-one count) (sym (pow-suc 10 count)); least = rw (add-one count) (many-digits count n tens) }
+
+    pub counted-few : n < 2 ^ 64 → count < widest
+    counted-few w =
+        let m = many-digits count n tens in
+        let f = word-digits n w in
+        omega arith
+
+  pub counted-short : n < 2 ^ 64 → count ≤ widest
+  counted-short w =
+      let m = p .least in
+      let f = word-digits n w in
+      omega arith
+
+  pub counted-all : n / 10 < power → count ≡ length (decimalOf n)
+  counted-all h =
+      let m = p .least in
+      let f = at-most count (p .powers) in
+      omega arith
+    where
+      at-most : (k : ℕ) → power * 10 ≡ 10 ^ k → length (decimalOf n) ≤ k
+      at-most zero e = absurd (omega arith)
+      at-most (suc j) e = few-digits j n (rw (← e) (omega arith))
+
+-- the digits of rest, put before the place behind `at`, give the buffer with those of n
+pub record Spelled (d₀ : List ℕ) (n end : ℕ) (d : List ℕ) (rest at : ℕ) : Type 0 where
+  pub start : ℕ
+  pub starts : start + length (decimalOf n) ≡ end
+  pub place : start + length (decimalOf rest) ≡ at + 1
+  pub within : at < length d
+  pub long : length d ≡ length d₀
+  pub holds : pasted d start (decimalOf rest) ≡ pasted d₀ start (decimalOf n)
+
+pub spelled-none : {d : List ℕ} {n end : ℕ} → Room d (decimalOf n) end → Spelled d n end d n (end - 1)
+spelled-none {d} {n} {end} r =
+    let s = some-digit n in
+    record {
+      start = end - length (decimalOf n);
+      starts = omega arith;
+      place = omega arith;
+      within = omega arith;
+      long = refl;
+      holds = refl;
+    }
+
+module _ {d₀ : List ℕ} {n end : ℕ} {d : List ℕ} {rest at : ℕ} (p : Spelled d₀ n end d rest at) where
+  module _ (h : 10 ≤ rest) where
+    further : p .start + length (decimalOf (rest / 10)) ≡ at
+    further =
+        let e = one-more rest h in
+        let s = p .place in
+        omega arith
+
+    pub spelled-inside : 1 ≤ at
+    spelled-inside =
+        let e = further in
+        let s = some-digit (rest / 10) in
+        omega arith
+
+    pub spelled-next : {b : ℕ} → b ≡ digitZero + rest % 10 → Spelled d₀ n end (set d at b) (rest / 10) (at - 1)
+    spelled-next {b} e =
+        let f = further in
+        let i = spelled-inside in
+        let w = p .within in
+        let l = length-set d at b in
+        record {
+          start = p .start;
+          starts = p .starts;
+          place = omega arith;
+          within = omega arith;
+          long = l ∙ p .long;
+          holds =
+              rw (pasted-byte d at b w, ← f, pasted-before d (p .start) (decimalOf (rest / 10)) (b ∷ []) (omega arith), e, ← last-digit rest h)
+              (p .holds);
+        }
+
+  pub spelled-all : {b : ℕ} → rest < 10 → b ≡ digitZero + rest → Put d₀ (decimalOf n) end (set d at b) at
+  spelled-all {b} h e =
+      let o = ap length (one-digit rest h) in
+      let s = p .place in
+      let here : p .start ≡ at = omega arith in
+      record {
+        starts = rw (← here) (p .starts);
+        holds = rw (pasted-byte d at b (p .within), e, ← one-digit rest h, ← here) (p .holds);
+      }

@@ -1,13 +1,13 @@
--- Texts written over a buffer, one behind the other.
+-- Texts written over a buffer, one before the other.
 -- Assumes nothing.
 use Prim.Native.Nat.{ℕ, suc, _+_, _≤_, _<_}
 use mathlib.Core.Path.{_≡_, refl, sym, _∙_, ap}
-use mathlib.Core.List.{List, [], _++_, append-assoc}
+use mathlib.Core.List.{List, [], _∷_, _++_, append-assoc}
 use native.Mathlib.Nat.{add-assoc}
 use native.Mathlib.Numerals.{add-one}
 use native.Mathlib.Omega.{arith}
 use lib.ListN.{length, getD, take, drop, set, length-append, length-set}
-use lib.Seq.{paste, paste-zero, paste-suc, length-paste, take-at, drop-at, drop-drop, take-length, take-all, length-take-le}
+use lib.Seq.{paste, paste-zero, paste-suc, length-paste, take-append-le, take-take, drop-at, take-length, take-all, length-take-le, append-snoc, set-split}
 use Rattle.answer.specs.Writing.{pasted}
 use Rattle.answer.specs.Putting.{Room, Put}
 
@@ -20,60 +20,71 @@ pasted-whole : (d : List ℕ) (at : ℕ) (t : List ℕ) → pasted d at t ≡ pa
 unfolding pasted
 pasted-whole d at t = rw take-length
 
-pub length-pasted : (d : List ℕ) (at : ℕ) (t : List ℕ) → Room d at t → length (pasted d at t) ≡ length d
-length-pasted d at t h = rw (pasted-whole d at t) (length-paste d at t (length t) (h .fits) (omega arith))
+pub length-pasted : (d : List ℕ) (at : ℕ) (t : List ℕ) → at + length t ≤ length d → length (pasted d at t) ≡ length d
+length-pasted d at t h = rw (pasted-whole d at t) (length-paste d at t (length t) h (omega arith))
 
 pub pasted-none : (d : List ℕ) (at : ℕ) → pasted d at [] ≡ d
 pasted-none d at = pasted-whole d at [] ∙ sym (paste-zero d at [])
 
--- A text, and then another right behind it, is the two as one.
-pub pasted-more : (d : List ℕ) (at : ℕ) (t u : List ℕ) → Room d at t → pasted (pasted d at t) (at + length t) u ≡ pasted d at (t ++ u)
+-- a single byte is stored
+pub pasted-byte : (d : List ℕ) (at b : ℕ) → at < length d → set d at b ≡ pasted d at (b ∷ [])
 unfolding pasted
-pasted-more d at t u h =
-    let head : length (take at d ++ t) ≡ at + length t = length-append (take at d) t ∙ ap (λ (n : ℕ). n + length t) (length-take-le at d (omega arith)) in
-    let rest : List ℕ = drop (at + length t) d in
+pasted-byte d at b h = set-split d at b h ∙ rw (add-one at, append-snoc (take at d) b (drop (suc at) d))
+
+-- A text, and then another right before it, is the two as one.
+pub pasted-before : (d : List ℕ) (at : ℕ) (t u : List ℕ) → at + length t + length u ≤ length d → pasted (pasted d (at + length t) u) at t ≡ pasted d at (t ++ u)
+unfolding pasted
+pasted-before d at t u h =
+    let head : length (take (at + length t) d) ≡ at + length t = length-take-le (at + length t) d (omega arith) in
+    let rest : List ℕ = drop (at + length t + length u) d in
     rw (
-      take-at (take at d ++ t) rest (at + length t) head,
-      ← drop-drop (length u) (at + length t) (take at d ++ t ++ rest),
-      drop-at (take at d ++ t) rest (at + length t) head,
-      drop-drop (length u) (at + length t) d,
+      append-assoc (take (at + length t) d) u rest,
+      take-append-le at (take (at + length t) d) (u ++ rest) (omega arith),
+      take-take at (at + length t) d (omega arith),
+      drop-at (take (at + length t) d) (u ++ rest) (at + length t) head,
       length-append t u,
       ← add-assoc at (length t) (length u),
-      append-assoc (take at d) t u,
     )
+    (simp append-assoc)
 
--- Room for two texts is room for the first, and then for the second behind it; and the two together are put.
-module _ {d : List ℕ} {at : ℕ} where
-  pub room-first : (t u : List ℕ) → Room d at (t ++ u) → Room d at t
-  room-first t u h = let l = length-append t u in record { fits = omega arith }
+-- Room for two texts is room for the second, and then for the first before it; and the two together are put.
+module _ {d : List ℕ} {end : ℕ} where
+  pub room-last : (t u : List ℕ) → Room d (t ++ u) end → Room d u end
+  room-last t u h = let l = length-append t u in record { fits = omega arith; within = h .within }
 
-  module _ {t d′ : List ℕ} {end : ℕ} (p : Put d at t d′ end) where
-    pub room-next : (u : List ℕ) → Room d at (t ++ u) → Room d′ end u
-    room-next u h =
-        let e = p .next in
+  pub put-none : Put d [] end d end
+  put-none = record { starts = omega arith; holds = sym (pasted-none d end) }
+
+  module _ {u d′ : List ℕ} {mid : ℕ} (p : Put d u end d′ mid) where
+    pub room-before : (t : List ℕ) → Room d (t ++ u) end → Room d′ t mid
+    room-before t h =
+        let e = p .starts in
         let l = length-append t u in
-        let m = ap length (p .holds) ∙ length-pasted d at t (room-first t u h) in
-        record { fits = omega arith }
+        let m = ap length (p .holds) ∙ length-pasted d mid u (omega arith) in
+        record { fits = omega arith; within = omega arith }
 
-    pub put-next : {u d″ : List ℕ} {last : ℕ} → Room d at t → Put d′ end u d″ last → Put d at (t ++ u) d″ last
-    put-next {u} h q =
+    pub put-before : {t d″ : List ℕ} {start : ℕ} → Room d (t ++ u) end → Put d′ t mid d″ start → Put d (t ++ u) end d″ start
+    put-before {t} {d″} {start} h q =
+        let e = p .starts in
+        let f = q .starts in
+        let l = length-append t u in
         record {
-          next = q .next ∙ ap (λ (n : ℕ). n + length u) (p .next) ∙ simp (length-append, add-assoc);
-          holds = q .holds ∙ rw (p .next, p .holds) (pasted-more d at t u h);
+          starts = omega arith;
+          holds = q .holds ∙ rw (p .holds, ← f) (pasted-before d start t u (omega arith));
         }
 
 -- the first i bytes of s have been put into the buffer d from a place on
-pub record Copied (d : List ℕ) (at : ℕ) (s after : List ℕ) (i : ℕ) : Type 0 where
+pub record Copied (d s : List ℕ) (at : ℕ) (after : List ℕ) (i : ℕ) : Type 0 where
   pub within : i ≤ length s
-  pub room : Room d at s
+  pub room : at + length s ≤ length d
   pub long : length after ≡ length d
   pub holds : after ≡ pasted d at (take i s)
 
-module _ {d : List ℕ} {at : ℕ} {s : List ℕ} where
-  pub copied-none : Room d at s → Copied d at s d 0
+module _ {d s : List ℕ} {at : ℕ} where
+  pub copied-none : at + length s ≤ length d → Copied d s at d 0
   copied-none h = record { within = omega arith; room = h; long = refl; holds = sym (pasted-none d at) }
 
-  pub copied-next : {after : List ℕ} {i : ℕ} → Copied d at s after i → i < length s → Copied d at s (set after (at + i) (getD s i 0)) (i + 1)
+  pub copied-next : {after : List ℕ} {i : ℕ} → Copied d s at after i → i < length s → Copied d s at (set after (at + i) (getD s i 0)) (i + 1)
   copied-next {after} {i} p h =
       let r = p .room in
       let e = p .holds ∙ pasted-take d at s i (p .within) in
@@ -86,8 +97,5 @@ module _ {d : List ℕ} {at : ℕ} {s : List ℕ} where
             (sym (pasted-take d at s (suc i) (omega arith)));
       }
 
-  pub copied-all : {after : List ℕ} {i : ℕ} → Copied d at s after i → length s ≤ i → Put d at s after (at + i)
-  copied-all {after} {i} p h =
-      let w = p .within in
-      let e : i ≡ length s = omega arith in
-      record { next = ap (λ (n : ℕ). at + n) e; holds = p .holds ∙ ap (pasted d at) (take-all i s h) }
+  pub copied-all : {after : List ℕ} {i end : ℕ} → Copied d s at after i → length s ≤ i → at + length s ≡ end → Put d s end after at
+  copied-all {after} {i} p h e = record { starts = e; holds = p .holds ∙ ap (pasted d at) (take-all i s h) }

@@ -16,6 +16,7 @@ use Rattle.refusal.specs.Refusal.{numberOf, granted}
 use Rattle.answer.specs.declared.Outcome.the-variants.{Granted, Refused, BadSheet}
 use Rattle.answer.specs.Lines.{lineOf, answerText}
 use Rattle.answer.specs.Writing.{pasted, writtenOf, bufferOf, writtenGiven}
+use Rattle.answer.specs.Putting.{Put}
 use Rattle.answer.specs.Promises.{NeverLonger, LongestReached, RefusedShorter, OnlyTooShort, LongestSuffices, RefusedKeeps, GrantedHolds, SampleText}
 use Rattle.answer.proofs.Texts.{granted-longest, refused-longest, sheet-text}
 use Rattle.answer.proofs.Writing.{wrote-none, wrote-all}
@@ -39,7 +40,9 @@ too-short : (buf text : List ℕ) → length buf < length text → writtenGiven 
 too-short buf text h = rw (← wrote-none buf text refl h .answers)
 
 long-enough : (buf text : List ℕ) → length text ≤ length buf → writtenGiven (writtenOf buf text) ≡ (granted, length text)
-long-enough buf text h = rw (← wrote-all buf text refl h refl .answers)
+long-enough buf text h =
+    let put : Put buf text (length text) (pasted buf 0 text) 0 = record { starts = zero-add (length text); holds = refl } in
+    rw (← wrote-all buf text refl h put .answers)
 
 pub only-too-short : OnlyTooShort
 only-too-short buf text = (

@@ -1,9 +1,9 @@
--- The text of each outcome from its keys and numbers, and how long it can be.
+-- The text of each outcome, line by line, its length, and how long it can be.
 -- Assumes nothing.
-use Prim.Native.Nat.{ℕ, _≤_, _<_, _^_}
+use Prim.Native.Nat.{ℕ, _+_, _≤_, _<_, _^_}
 use mathlib.Core.Path.{_≡_, refl, ap}
 use mathlib.Core.Bool.{false}
-use mathlib.Core.List.{List, [], _∷_, flatten}
+use mathlib.Core.List.{List, [], _∷_, flatten, reverse}
 use native.Mathlib.Omega.{arith}
 use lib.Dec.{eqb, lit<}
 use lib.ListN.{length, length-append}
@@ -13,14 +13,14 @@ use Rattle.refusal.specs.declared.Refusal.{Refusal}
 use Rattle.refusal.specs.declared.Refusal.the-variants as refused
 use Rattle.refusal.specs.Refusal.{numberOf, granted}
 use Rattle.credit.specs.declared.Figures.{Figures}
-use Rattle.text.specs.Part.{partOf}
-use Rattle.text.specs.Pieces.{indexOf}
+use Rattle.text.specs.Numbers.{decimalOf}
 use Rattle.answer.specs.declared.Outcome.the-variants.{Granted, Refused, BadSheet}
 use Rattle.answer.specs.Outcomes.{given}
-use Rattle.answer.specs.Lines.{lineOf, answerText, longest, longestRefused}
-use Rattle.answer.specs.Putting.{linesText}
+use Rattle.answer.specs.Lines.{lineOf, grantedLines, answerText, longest, longestRefused}
+use Rattle.answer.specs.Putting.{Room, Put}
 use Rattle.answer.specs.Promises.{Wide}
 use Rattle.answer.proofs.Digits.{one-digit, few-digits, word-digits}
+use Rattle.answer.proofs.Putting.{Lined, lined-none, lined-all}
 
 -- the number of a refusal is none of a granted answer, and has at most two digits
 number-range : (why : Refusal) → (granted < numberOf why) × (numberOf why < 10 ^ 2)
@@ -43,49 +43,59 @@ number-range refused.PastLargest = (lit< tt, lit< tt)
 never-granted : (why : Refusal) → eqb (numberOf why) granted ≡ false
 never-granted why = ne-eqb (numberOf why) granted (λ (e : numberOf why ≡ granted). let r = number-range why .0 in omega arith)
 
--- the keys and the numbers of a granted outcome
+-- the text of a granted outcome, line by line, and its length
 module _ (f : Figures) where
-  abbrev grantedLined : List ℕ
-  grantedLined =
-      linesText (bytes "answer= load= depth= credit= volume= removed=")
-      (granted ∷ f .load .0 ∷ f .depth .0 ∷ f .percent .0 ∷ f .volume .0 ∷ f .removed .0 ∷ [])
-
-  pub granted-text : grantedLined ≡ answerText (Granted f)
-  unfolding linesText answerText flatten indexOf partOf
+  pub granted-text : answerText (Granted f) ≡ flatten (grantedLines (given (Granted f)))
+  unfolding answerText
   granted-text = refl
 
-  pub granted-longest : Wide (given (Granted f)) → length (answerText (Granted f)) ≤ longest
+  module _ {d : List ℕ} {end : ℕ} where
+    pub granted-starts : Room d (answerText (Granted f)) end → Lined d end (reverse (grantedLines (given (Granted f)))) [] d end
+    granted-starts r = lined-none (reverse (grantedLines (given (Granted f)))) granted-text r
+
+    pub granted-ends : {after : List ℕ} {start : ℕ} → Lined d end [] (grantedLines (given (Granted f))) after start → Put d (answerText (Granted f)) end after start
+    granted-ends s = lined-all granted-text s
+
+  pub granted-length : length (answerText (Granted f))
+      ≡ 47 + length (decimalOf (f .load .0)) + length (decimalOf (f .depth .0)) + length (decimalOf (f .percent .0)) + length (decimalOf (f .volume .0)) + length (decimalOf (f .removed .0))
   unfolding answerText flatten lineOf
-  granted-longest w =
+  granted-length =
       let none = ap length (one-digit granted (lit< tt)) in
+      simp length-append (omega arith)
+
+  pub granted-longest : Wide (given (Granted f)) → length (answerText (Granted f)) ≤ longest
+  granted-longest w =
+      let all = granted-length in
       let load = word-digits (f .load .0) (w .load) in
       let depth = word-digits (f .depth .0) (w .depth) in
       let percent = word-digits (f .percent .0) (w .percent) in
       let volume = word-digits (f .volume .0) (w .volume) in
       let removed = word-digits (f .removed .0) (w .removed) in
-      simp length-append (omega arith)
-
-  pub granted-short : Wide (given (Granted f)) → length grantedLined ≤ longest
-  granted-short w = rw granted-text (granted-longest w)
+      omega arith
 
 -- and those of a refused one
 module _ (why : Refusal) (k : ℕ) where
-  abbrev refusedLined : ℕ → List ℕ
-  refusedLined number = linesText (bytes "answer= line=") (number ∷ k ∷ [])
-
-  pub refused-text : {number : ℕ} → number ≡ numberOf why → refusedLined number ≡ answerText (Refused why k)
-  unfolding linesText answerText flatten indexOf partOf
+  refused-text : {number : ℕ} → number ≡ numberOf why → answerText (Refused why k) ≡ flatten (lineOf (bytes "answer=") number ∷ lineOf (bytes "line=") k ∷ [])
+  unfolding answerText
   refused-text e = rw (never-granted why, e)
 
+  module _ {d : List ℕ} {end number : ℕ} (e : number ≡ numberOf why) where
+    pub refused-starts : Room d (answerText (Refused why k)) end → Lined d end (lineOf (bytes "line=") k ∷ lineOf (bytes "answer=") number ∷ []) [] d end
+    refused-starts r = lined-none (lineOf (bytes "line=") k ∷ lineOf (bytes "answer=") number ∷ []) (refused-text e) r
+
+    pub refused-ends : {after : List ℕ} {start : ℕ} → Lined d end [] (lineOf (bytes "answer=") number ∷ lineOf (bytes "line=") k ∷ []) after start → Put d (answerText (Refused why k)) end after start
+    refused-ends s = lined-all (refused-text e) s
+
+  pub refused-length : length (answerText (Refused why k)) ≡ 14 + length (decimalOf (numberOf why)) + length (decimalOf k)
+  unfolding flatten lineOf
+  refused-length = rw (refused-text refl) (simp length-append (omega arith))
+
   pub refused-longest : k < 2 ^ 64 → length (answerText (Refused why k)) ≤ longestRefused
-  unfolding answerText flatten lineOf
   refused-longest h =
+      let all = refused-length in
       let number = few-digits 1 (numberOf why) (number-range why .1) in
       let line = word-digits k h in
-      simp (never-granted why, length-append) (omega arith)
-
-  pub refused-short : {number : ℕ} → number ≡ numberOf why → k < 2 ^ 64 → length (refusedLined number) ≤ longest
-  refused-short e h = let short = refused-longest h in rw (refused-text e) (omega arith)
+      omega arith
 
 -- a sheet that breaks a rule prints what refusal 5 prints
 pub sheet-text : (i j : ℕ) → answerText (Refused refused.UnfitSheet 0) ≡ answerText (BadSheet i j)

@@ -2,28 +2,16 @@
 -- Assumes nothing.
 use Prim.Native.Nat.{ℕ, _+_, _≤_}
 use mathlib.Core.Path.{_≡_}
-use mathlib.Core.List.{List, [], _∷_, _++_}
+use mathlib.Core.List.{List}
 use lib.ListN.{length}
-use Rattle.text.specs.Pieces.{space, beforeOf, afterOf}
-use Rattle.answer.specs.declared.Written.{Written}
-use Rattle.answer.specs.Lines.{lineOf}
-use Rattle.answer.specs.Writing.{pasted, writtenOf, bufferOf}
+use Rattle.answer.specs.Writing.{pasted}
 
--- the lines of some keys, with a space between each two, and some numbers: a line for each number
-unfoldable pub linesText : List ℕ → List ℕ → List ℕ
-linesText keys [] = []
-linesText keys (n ∷ ns) = lineOf (beforeOf space keys) n ++ linesText (afterOf space keys) ns
+-- a buffer has room for a text that ends at a place
+pub record Room (buf text : List ℕ) (end : ℕ) : Type 0 where
+  pub fits : length text ≤ end
+  pub within : end ≤ length buf
 
--- a buffer has room for a text from a place on
-pub record Room (buf : List ℕ) (at : ℕ) (text : List ℕ) : Type 0 where
-  pub fits : at + length text ≤ length buf
-
--- what a buffer holds after a text was put from a place on, and the place behind the text
-pub record Put (buf : List ℕ) (at : ℕ) (text after : List ℕ) (end : ℕ) : Type 0 where
-  pub next : end ≡ at + length text
-  pub holds : after ≡ pasted buf at text
-
--- a text was written at the start of a buffer, or refused: the answer, and what the buffer holds afterwards
-pub record Wrote (buf text : List ℕ) (answer : Written) (after : List ℕ) : Type 0 where
-  pub answers : answer ≡ writtenOf buf text
-  pub holds : after ≡ bufferOf buf text
+-- what a buffer holds after a text was put that ends at a place, and the place at which the text starts
+pub record Put (buf text : List ℕ) (end : ℕ) (after : List ℕ) (start : ℕ) : Type 0 where
+  pub starts : start + length text ≡ end
+  pub holds : after ≡ pasted buf start text

@@ -1,11 +1,11 @@
 // 01, "Job and answer text": a finished outcome, and its text written into a lent buffer.
 ghost use mathlib.Core.Path.{_≡_};
-ghost use Prim.Native.Nat.{_≤_};
+ghost use Prim.Native.Nat.{_+_, _≤_, _<_};
 ghost use lib.ListN.{length};
-ghost use Rattle.text.specs.Numbers.{decimalOf};
-ghost use Rattle.answer.specs.Lines.{lineOf, answerText, longest};
-ghost use Rattle.answer.specs.Writing.{pasted, writtenOf, bufferOf};
-ghost use Rattle.answer.specs.Putting.{linesText, Room, Put, Wrote};
+ghost use Rattle.text.specs.Numbers.{digitZero, decimalOf};
+ghost use Rattle.answer.specs.Lines.{lineOf, answerText, widest, longest};
+ghost use Rattle.answer.specs.Writing.{writtenOf, bufferOf};
+ghost use Rattle.answer.specs.Putting.{Room, Put};
 use credit::Figures;
 use refusal::Refusal;
 
@@ -39,123 +39,138 @@ pub fn write(outcome: Outcome, buf: &mut [u8]) -> Written
     ensures { λ r. ⌜ r ≡ writtenOf (now (buf .entry)) (answerText outcome) ⌝ }
     ensures { λ _. ⌜ now (buf .exit) ≡ bufferOf (now (buf .entry)) (answerText outcome) ⌝ }
 {
-    match outcome {
-        Outcome::Granted(f) => return write_granted(f, buf),
-        Outcome::Refused { why, line } => return write_refused(why, line, buf),
-        Outcome::BadSheet { list: _, place: _ } => {
-            return write_refused(Refusal::UnfitSheet, 0, buf);
-        }
-    }
-}
-
-// Writes the lines of a granted outcome.
-fn write_granted(f: Figures, buf: &mut [u8]) -> Written
-    ensures { λ r. ⌜ Wrote (now (buf .entry)) (answerText (Outcome.Granted f)) r (now (buf .exit)) ⌝ }
-{
-    let numbers = [0, f.load.0, f.depth.0, f.percent.0, f.volume.0, f.removed.0];
-    write_lines(
-        b"answer= load= depth= credit= volume= removed=",
-        &numbers,
-        buf,
-    )
-}
-
-// Writes the lines of a refused outcome.
-fn write_refused(why: Refusal, line: usize, buf: &mut [u8]) -> Written
-    ensures { λ r. ⌜ Wrote (now (buf .entry)) (answerText (Outcome.Refused why line)) r (now (buf .exit)) ⌝ }
-{
-    let numbers = [refusal::number(why), line as u64];
-    write_lines(b"answer= line=", &numbers, buf)
-}
-
-// Writes a line for each number at the start of buf, with the keys in turn, unless buf is too short for all of them.
-fn write_lines(keys: &[u8], numbers: &[u64], buf: &mut [u8]) -> Written
-    requires { ⌜ length (linesText (now keys) (now numbers)) ≤ longest ⌝ }
-    ensures { λ r. ⌜ Wrote (now (buf .entry)) (linesText (now (keys .entry)) (now (numbers .entry))) r (now (buf .exit)) ⌝ }
-{
-    let size = lines_size(keys, numbers);
+    let size = text_size(outcome);
     if buf.len() < size {
         return Written::Refused(Refusal::BufferTooShort);
     }
-    put_lines(keys, numbers, buf);
+    put_text(outcome, buf, size);
     Written::Granted(size)
 }
 
-// The length of the lines.
-fn lines_size(keys: &[u8], numbers: &[u64]) -> usize
-    requires { ⌜ length (linesText (now keys) (now numbers)) ≤ longest ⌝ }
-    ensures { λ r. ⌜ r ≡ length (linesText (now (keys .entry)) (now (numbers .entry))) ⌝ }
+// The length of the text of an outcome.
+fn text_size(outcome: Outcome) -> usize
+    ensures { λ r. ⌜ r ≡ length (answerText outcome) ⌝ }
 {
-    let mut rest = keys;
-    let mut size = 0;
-    let mut i = 0;
-    while i < numbers.len() {
-        size += text::before(rest, b' ').len() + width(numbers[i]) + 1;
-        let next = text::after(rest, b' ');
-        rest = next;
-        i += 1;
+    match outcome {
+        Outcome::Granted(f) => return granted_size(f),
+        Outcome::Refused { why, line } => return refused_size(why, line),
+        Outcome::BadSheet { list: _, place: _ } => return refused_size(Refusal::UnfitSheet, 0),
     }
-    size
 }
 
-// How many digits n has.
-fn width(n: u64) -> usize
-    ensures { λ r. ⌜ r ≡ length (decimalOf n) ⌝ }
+// That of a granted one: its keys and line ends, the 0 of its answer, and the digits of its figures.
+fn granted_size(f: Figures) -> usize
+    ensures { λ r. ⌜ r ≡ length (answerText (Outcome.Granted f)) ⌝ }
 {
+    47
+        + width(f.load.0)
+        + width(f.depth.0)
+        + width(f.percent.0)
+        + width(f.volume.0)
+        + width(f.removed.0)
+}
+
+// That of a refused one: its keys and line ends, and the digits of its number and line.
+fn refused_size(why: Refusal, line: usize) -> usize
+    ensures { λ r. ⌜ r ≡ length (answerText (Outcome.Refused why line)) ⌝ }
+{
+    14 + width(refusal::number(why)) + width(line as u64)
+}
+
+// How many digits n has: as many as the first power of ten that is above its tenth.
+fn width(n: u64) -> usize
+    ensures { λ r. ⌜ (r ≡ length (decimalOf n)) × (r ≤ widest) ⌝ }
+{
+    let tenth = n / 10;
     let mut digits = 1;
-    let mut rest = n;
-    while 10 <= rest {
-        rest = rest / 10;
+    let mut power = 1;
+    while power <= tenth {
+        power = power * 10;
         digits += 1;
     }
     digits
 }
 
-// Puts the lines at the start of buf.
-fn put_lines(keys: &[u8], numbers: &[u64], buf: &mut [u8])
-    requires { ⌜ Room (now buf) 0 (linesText (now keys) (now numbers)) ⌝ }
-    ensures { λ _. ⌜ now (buf .exit) ≡ pasted (now (buf .entry)) 0 (linesText (now (keys .entry)) (now (numbers .entry))) ⌝ }
+// Puts the text of an outcome into buf, up to a place, and answers the place at which it starts.
+fn put_text(outcome: Outcome, buf: &mut [u8], end: usize) -> usize
+    requires { ⌜ Room (now buf) (answerText outcome) end ⌝ }
+    ensures { λ r. ⌜ Put (now (buf .entry)) (answerText outcome) end (now (buf .exit)) r ⌝ }
 {
-    let mut rest = keys;
-    let mut at = 0;
-    let mut i = 0;
-    while i < numbers.len() {
-        at = put_line(text::before(rest, b' '), numbers[i], buf, at);
-        let next = text::after(rest, b' ');
-        rest = next;
-        i += 1;
+    match outcome {
+        Outcome::Granted(f) => return put_granted(f, buf, end),
+        Outcome::Refused { why, line } => return put_refused(why, line, buf, end),
+        Outcome::BadSheet { list: _, place: _ } => {
+            return put_refused(Refusal::UnfitSheet, 0, buf, end);
+        }
     }
 }
 
-// Puts a line into buf from a place on, and answers the place behind it.
-fn put_line(key: &[u8], n: u64, buf: &mut [u8], at: usize) -> usize
-    requires { ⌜ Room (now buf) at (lineOf (now key) n) ⌝ }
-    ensures { λ r. ⌜ Put (now (buf .entry)) at (lineOf (now (key .entry)) n) (now (buf .exit)) r ⌝ }
+// Puts the lines of a granted outcome, from the last to the first.
+fn put_granted(f: Figures, buf: &mut [u8], end: usize) -> usize
+    requires { ⌜ Room (now buf) (answerText (Outcome.Granted f)) end ⌝ }
+    ensures { λ r. ⌜ Put (now (buf .entry)) (answerText (Outcome.Granted f)) end (now (buf .exit)) r ⌝ }
 {
-    let value = put(key, buf, at);
-    let end = put_number(n, buf, value);
-    put(b"\n", buf, end)
+    let removed = put_line(b"removed=", f.removed.0, buf, end);
+    let volume = put_line(b"volume=", f.volume.0, buf, removed);
+    let credit = put_line(b"credit=", f.percent.0, buf, volume);
+    let depth = put_line(b"depth=", f.depth.0, buf, credit);
+    let load = put_line(b"load=", f.load.0, buf, depth);
+    put_line(b"answer=", 0, buf, load)
 }
 
-// Puts the digits of n into buf from a place on.
-fn put_number(n: u64, buf: &mut [u8], at: usize) -> usize
-    requires { ⌜ Room (now buf) at (decimalOf n) ⌝ }
-    ensures { λ r. ⌜ Put (now (buf .entry)) at (decimalOf n) (now (buf .exit)) r ⌝ }
+// Puts the lines of a refused outcome, from the last to the first.
+fn put_refused(why: Refusal, line: usize, buf: &mut [u8], end: usize) -> usize
+    requires { ⌜ Room (now buf) (answerText (Outcome.Refused why line)) end ⌝ }
+    ensures { λ r. ⌜ Put (now (buf .entry)) (answerText (Outcome.Refused why line)) end (now (buf .exit)) r ⌝ }
 {
-    let mut scratch = [0u8; 20];
-    let k = io::decimal(n, &mut scratch);
-    put(&scratch[..k], buf, at)
+    let place = put_line(b"line=", line as u64, buf, end);
+    put_line(b"answer=", refusal::number(why), buf, place)
 }
 
-// Puts a text into buf from a place on.
-fn put(s: &[u8], buf: &mut [u8], at: usize) -> usize
-    requires { ⌜ Room (now buf) at (now s) ⌝ }
-    ensures { λ r. ⌜ Put (now (buf .entry)) at (now (s .entry)) (now (buf .exit)) r ⌝ }
+// Puts a line into buf, up to a place, and answers the place at which it starts.
+fn put_line(key: &[u8], n: u64, buf: &mut [u8], end: usize) -> usize
+    requires { ⌜ Room (now buf) (lineOf (now key) n) end ⌝ }
+    ensures { λ r. ⌜ Put (now (buf .entry)) (lineOf (now (key .entry)) n) end (now (buf .exit)) r ⌝ }
 {
+    let last = put(b"\n", buf, end);
+    let value = put_number(n, buf, last);
+    put(key, buf, value)
+}
+
+// Puts the digits of n, from the last to the first.
+fn put_number(n: u64, buf: &mut [u8], end: usize) -> usize
+    requires { ⌜ Room (now buf) (decimalOf n) end ⌝ }
+    ensures { λ r. ⌜ Put (now (buf .entry)) (decimalOf n) end (now (buf .exit)) r ⌝ }
+{
+    let mut at = end - 1;
+    let mut rest = n;
+    while 10 <= rest {
+        buf[at] = digit(rest % 10);
+        rest = rest / 10;
+        at -= 1;
+    }
+    buf[at] = digit(rest);
+    at
+}
+
+// The digit of a number below ten.
+fn digit(n: u64) -> u8
+    requires { ⌜ n < 10 ⌝ }
+    ensures { λ r. ⌜ r ≡ digitZero + n ⌝ }
+{
+    b'0' + n as u8
+}
+
+// Puts a text into buf, up to a place, and answers the place at which it starts.
+fn put(s: &[u8], buf: &mut [u8], end: usize) -> usize
+    requires { ⌜ Room (now buf) (now s) end ⌝ }
+    ensures { λ r. ⌜ Put (now (buf .entry)) (now (s .entry)) end (now (buf .exit)) r ⌝ }
+{
+    let start = end - s.len();
     let mut i = 0;
     while i < s.len() {
-        buf[at + i] = s[i];
+        buf[start + i] = s[i];
         i += 1;
     }
-    at + i
+    start
 }

@@ -8,13 +8,16 @@ use Rattle.answer.proofs.put.Statement.{statement}
 use Rattle.answer.proofs.put.Tie as tie
 
 abbrev Inv-loop : tie.InvT-loop
-Inv-loop s buf₀ at i₀ buf i = Copied buf₀ at s buf i
+Inv-loop s buf₀ end start i₀ buf i = Copied buf₀ s start buf i
 
 abbrev μ-loop : tie.MeasureT-loop
-μ-loop s buf₀ at i₀ buf i = length s - i
+μ-loop s buf₀ end start i₀ buf i = length s - i
+
+sub-start : tie.Need-sub-start Inv-loop μ-loop
+sub-start c = search needs
 
 loop-holds : tie.Need-loop-holds Inv-loop μ-loop
-loop-holds c = search (copied-none, needs)
+loop-holds c = copied-none (search needs)
 
 shared-slice-read-buf : tie.Need-shared-slice-read-buf Inv-loop μ-loop
 shared-slice-read-buf c = search needs
@@ -34,14 +37,11 @@ loop-less c = search needs
 loop-again : tie.Need-loop-again Inv-loop μ-loop
 loop-again c = copied-next (c .before .before .loop .inv) (search needs)
 
-add-result : tie.Need-add-result Inv-loop μ-loop
-add-result c = search needs
-
 same-length : tie.Need-same-length Inv-loop μ-loop
 same-length c = search needs
 
 returns : tie.Need-returns Inv-loop μ-loop
-returns c = copied-all (c .before .loop .inv) (search needs)
+returns c = copied-all (c .before .loop .inv) (search needs) (search needs)
 
 pub put-spec : {M : Type 1} → statement M
 put-spec =
@@ -49,6 +49,7 @@ put-spec =
     (tie.spec
     Inv-loop
     μ-loop
+    sub-start
     loop-holds
     shared-slice-read-buf
     add-buf
@@ -56,6 +57,5 @@ put-spec =
     add-i
     loop-less
     loop-again
-    add-result
     same-length
     returns)

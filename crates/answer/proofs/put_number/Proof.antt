@@ -1,35 +1,64 @@
--- `answer::put_number` meets its contract: what the scratch array holds are the digits of the number.
+-- `answer::put_number` meets its contract: each turn stores the last digit of what is left, and leaves the digits of its tenth.
 -- Assumes nothing.
 use borrow.Author.Needs.{needs}
-use Rattle.answer.proofs.Putting.{spelled-room, spelled-put}
+use native.Mathlib.Omega.{arith}
+use Rattle.answer.proofs.Digits.{some-digit, Spelled, spelled-none, spelled-inside, spelled-next, spelled-all}
 use Rattle.answer.proofs.put_number.Statement.{statement}
 use Rattle.answer.proofs.put_number.Tie as tie
 
-decimal-requires : tie.Need-decimal-requires
-decimal-requires c κs = search needs
+abbrev Inv-loop : tie.InvT-loop
+Inv-loop n buf₀ end at₀ rest₀ buf at rest = Spelled buf₀ n end buf rest at
 
-array-share-prefix-scratch : tie.Need-array-share-prefix-scratch
-array-share-prefix-scratch c = search needs
+abbrev μ-loop : tie.MeasureT-loop
+μ-loop n buf₀ end at₀ rest₀ buf at rest = rest
 
-slice-aggregate-put : tie.Need-slice-aggregate-put
-slice-aggregate-put c = search needs
+sub-at : tie.Need-sub-at Inv-loop μ-loop
+sub-at c = let some = some-digit (c .before .args .n) in omega arith
 
-put-requires : tie.Need-put-requires
-put-requires c κs = search (spelled-room, needs)
+loop-holds : tie.Need-loop-holds Inv-loop μ-loop
+loop-holds c = search (spelled-none, needs)
 
-same-length : tie.Need-same-length
+digit-requires : tie.Need-digit-requires Inv-loop μ-loop
+digit-requires c κs = search needs
+
+slice-write-buf : tie.Need-slice-write-buf Inv-loop μ-loop
+slice-write-buf c = search needs
+
+sub-at-2 : tie.Need-sub-at-2 Inv-loop μ-loop
+sub-at-2 c = search (spelled-inside, needs)
+
+loop-less : tie.Need-loop-less Inv-loop μ-loop
+loop-less c = search needs
+
+loop-again : tie.Need-loop-again Inv-loop μ-loop
+loop-again c = search (spelled-next, needs)
+
+digit-requires-2 : tie.Need-digit-requires-2 Inv-loop μ-loop
+digit-requires-2 c κs = search needs
+
+slice-write-buf-2 : tie.Need-slice-write-buf-2 Inv-loop μ-loop
+slice-write-buf-2 c = search needs
+
+same-length : tie.Need-same-length Inv-loop μ-loop
 same-length c = search needs
 
-returns : tie.Need-returns
-returns c = search (spelled-put, needs)
+returns : tie.Need-returns Inv-loop μ-loop
+returns c = search (spelled-all, needs)
 
 pub put-number-spec : {M : Type 1} → statement M
 put-number-spec =
     tie.close
     (tie.spec
-    decimal-requires
-    array-share-prefix-scratch
-    slice-aggregate-put
-    put-requires
+    Inv-loop
+    μ-loop
+    sub-at
+    loop-holds
+    digit-requires
+    slice-write-buf
+    sub-at-2
+    loop-less
+    loop-again
+    digit-requires-2
+    slice-write-buf-2
     same-length
     returns)

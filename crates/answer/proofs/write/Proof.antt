@@ -1,66 +1,34 @@
--- `answer::write` meets its contract: each outcome is handed to the writer of its lines.
+-- `answer::write` meets its contract: the length is worked out before anything is put, and then all of it fits.
 -- Assumes nothing.
 use borrow.Author.Needs.{needs}
+use denote.Ref.{now}
 use Rattle.answer.specs.Lines.{answerText}
+use Rattle.answer.proofs.Writing.{wrote-none, wrote-all}
 use Rattle.answer.proofs.write.Statement.{statement}
 use Rattle.answer.proofs.write.Tie as tie
 
-enum-known-outcome : tie.Need-enum-known-outcome
-enum-known-outcome c = search needs
+text-size-requires : tie.Need-text-size-requires
+text-size-requires c κs = search needs
 
-write-granted-requires : tie.Need-write-granted-requires
-write-granted-requires c κs = search needs
+returns : tie.Need-returns
+returns c =
+    let start = c .before .before .before in
+    let w = wrote-none (now (start .args .buf)) (answerText (start .args .outcome)) (c .before .text-size .ensures) (c .if1 .taken) in
+    (w .answers, w .holds)
+
+put-text-requires : tie.Need-put-text-requires
+put-text-requires c κs = search needs
 
 same-length : tie.Need-same-length
 same-length c = search needs
 
-returns : tie.Need-returns
-returns c =
-    let d = c .before .before in
-    rw (d .before .before .before .outcome .given .1) (d .write-granted .ensures .answers, d .write-granted .ensures .holds)
-
-enum-known-outcome-2 : tie.Need-enum-known-outcome-2
-enum-known-outcome-2 c = search needs
-
-write-refused-requires : tie.Need-write-refused-requires
-write-refused-requires c κs = search needs
-
-same-length-2 : tie.Need-same-length-2
-same-length-2 c = search needs
-
 returns-2 : tie.Need-returns-2
 returns-2 c =
-    let d = c .before .before in
-    rw (d .before .before .before .outcome2 .given .1) (d .write-refused .ensures .answers, d .write-refused .ensures .holds)
-
-enum-told : tie.Need-enum-told
-enum-told c = search needs
-
-write-refused-requires-2 : tie.Need-write-refused-requires-2
-write-refused-requires-2 c κs = search needs
-
-same-length-3 : tie.Need-same-length-3
-same-length-3 c = search needs
-
-returns-3 : tie.Need-returns-3
-unfolding answerText
-returns-3 c =
-    let d = c .before .before in
-    rw (d .before .before .enum-told .given .1) (d .write-refused2 .ensures .answers, d .write-refused2 .ensures .holds)
+    let sized = c .before .before .before .before .before in
+    let start = sized .before .before in
+    let w = wrote-all (now (start .args .buf)) (answerText (start .args .outcome)) (sized .text-size .ensures) (c .before .before .before .before .if1 .left) (c .before .before .put-text .ensures) in
+    (w .answers, w .holds)
 
 pub write-spec : {M : Type 1} → statement M
 write-spec =
-    tie.close
-    (tie.spec
-    enum-known-outcome
-    write-granted-requires
-    same-length
-    returns
-    enum-known-outcome-2
-    write-refused-requires
-    same-length-2
-    returns-2
-    enum-told
-    write-refused-requires-2
-    same-length-3
-    returns-3)
+    tie.close (tie.spec text-size-requires returns put-text-requires same-length returns-2)

@@ -1,0 +1,48 @@
+-- `answer::text_size` meets its contract: each outcome has the length of its own lines.
+-- Assumes nothing.
+use borrow.Author.Needs.{needs}
+use Rattle.answer.specs.Lines.{answerText}
+use Rattle.answer.proofs.text_size.Statement.{statement}
+use Rattle.answer.proofs.text_size.Tie as tie
+
+enum-known-outcome : tie.Need-enum-known-outcome
+enum-known-outcome c = search needs
+
+granted-size-requires : tie.Need-granted-size-requires
+granted-size-requires c κs = search needs
+
+returns : tie.Need-returns
+returns c = rw (c .before .before .outcome .given .1) (c .granted-size .ensures)
+
+enum-known-outcome-2 : tie.Need-enum-known-outcome-2
+enum-known-outcome-2 c = search needs
+
+refused-size-requires : tie.Need-refused-size-requires
+refused-size-requires c κs = search needs
+
+returns-2 : tie.Need-returns-2
+returns-2 c = rw (c .before .before .outcome2 .given .1) (c .refused-size .ensures)
+
+enum-told : tie.Need-enum-told
+enum-told c = search needs
+
+refused-size-requires-2 : tie.Need-refused-size-requires-2
+refused-size-requires-2 c κs = search needs
+
+returns-3 : tie.Need-returns-3
+unfolding answerText
+returns-3 c = rw (c .before .enum-told .given .1) (c .refused-size2 .ensures)
+
+pub text-size-spec : {M : Type 1} → statement M
+text-size-spec =
+    tie.close
+    (tie.spec
+    enum-known-outcome
+    granted-size-requires
+    returns
+    enum-known-outcome-2
+    refused-size-requires
+    returns-2
+    enum-told
+    refused-size-requires-2
+    returns-3)
