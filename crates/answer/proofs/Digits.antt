@@ -1,5 +1,4 @@
--- A number's digits: the last is its rest by ten, and those before it are the digits of its tenth. How many there are, and how they
--- are put into a buffer from the last to the first.
+-- A number's digits: the last is its rest by ten, and those before it are the digits of its tenth; how many there are, and how they are put.
 -- Assumes nothing.
 use Prim.Native.Nat.{ℕ, zero, suc, _+_, _-_, _*_, _/_, _%_, _^_, _≤_, _<_}
 use mathlib.Core.Path.{_≡_, refl, sym, _∙_, ap}
@@ -30,13 +29,13 @@ unfolding decimalOf decimalFrom
 one-digit zero h = refl
 one-digit (suc n) h = rw (lt-ltb (suc n) 10 h)
 
-pub last-digit : (n : ℕ) → 10 ≤ n → decimalOf n ≡ decimalOf (n / 10) ++ ((digitZero + n % 10) ∷ [])
+last-digit : (n : ℕ) → 10 ≤ n → decimalOf n ≡ decimalOf (n / 10) ++ ((digitZero + n % 10) ∷ [])
 unfolding decimalOf decimalFrom
 last-digit zero h = absurd (omega arith)
 last-digit (suc n) h = rw (le-ltb (suc n) 10 h, far-enough n (suc n / 10) (suc n / 10) (omega arith) (omega arith))
 
 -- one digit more than a tenth of the number has
-pub one-more : (n : ℕ) → 10 ≤ n → length (decimalOf n) ≡ length (decimalOf (n / 10)) + 1
+one-more : (n : ℕ) → 10 ≤ n → length (decimalOf n) ≡ length (decimalOf (n / 10)) + 1
 one-more n h = rw (last-digit n h) (length-append (decimalOf (n / 10)) ((digitZero + n % 10) ∷ []))
 
 -- every number has a digit
@@ -62,7 +61,7 @@ pub word-digits : (n : ℕ) → n < 2 ^ 64 → length (decimalOf n) ≤ widest
 word-digits n h = few-digits 19 n (omega arith)
 
 -- a number that is 10 ^ j or more has more than j digits
-pub many-digits : (j n : ℕ) → 10 ^ j ≤ n → suc j ≤ length (decimalOf n)
+many-digits : (j n : ℕ) → 10 ^ j ≤ n → suc j ≤ length (decimalOf n)
 many-digits zero n h = some-digit n
 many-digits (suc j) n h =
     let tens : 10 ^ j * 10 ≤ n = rw (pow-suc 10 j) at h in

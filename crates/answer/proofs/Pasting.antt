@@ -20,10 +20,10 @@ pasted-whole : (d : List ℕ) (at : ℕ) (t : List ℕ) → pasted d at t ≡ pa
 unfolding pasted
 pasted-whole d at t = rw take-length
 
-pub length-pasted : (d : List ℕ) (at : ℕ) (t : List ℕ) → at + length t ≤ length d → length (pasted d at t) ≡ length d
+length-pasted : (d : List ℕ) (at : ℕ) (t : List ℕ) → at + length t ≤ length d → length (pasted d at t) ≡ length d
 length-pasted d at t h = rw (pasted-whole d at t) (length-paste d at t (length t) h (omega arith))
 
-pub pasted-none : (d : List ℕ) (at : ℕ) → pasted d at [] ≡ d
+pasted-none : (d : List ℕ) (at : ℕ) → pasted d at [] ≡ d
 pasted-none d at = pasted-whole d at [] ∙ sym (paste-zero d at [])
 
 -- a single byte is stored

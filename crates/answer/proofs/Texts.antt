@@ -45,7 +45,7 @@ never-granted why = ne-eqb (numberOf why) granted (λ (e : numberOf why ≡ gran
 
 -- the text of a granted outcome, line by line, and its length
 module _ (f : Figures) where
-  pub granted-text : answerText (Granted f) ≡ flatten (grantedLines (given (Granted f)))
+  granted-text : answerText (Granted f) ≡ flatten (grantedLines (given (Granted f)))
   unfolding answerText
   granted-text = refl
 
