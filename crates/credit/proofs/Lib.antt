@@ -1,5 +1,6 @@
 pub mod Working
 pub mod Answered
+pub mod Surveying
 pub mod Sites
 pub mod Numbers
 pub mod Depths

@@ -1,18 +1,32 @@
--- What the inner functions of crediting and sizing ask of their callers.
+-- What the inner functions of crediting and sizing ask of their callers, and what they give.
 -- Assumes nothing.
 use Prim.Native.Nat.{ℕ, _≤_}
-use mathlib.Core.List.{List}
-use mathlib.Core.Path.{_≡_}
+use mathlib.Core.List.{List, [], _∷_}
+use Rattle.laws.specs.Turn.{inTurn}
+use Rattle.refusal.specs.declared.Refusal.{Refusal}
+use Rattle.refusal.specs.declared.Refusal.the-variants.{NoPublishedSheet}
 use Rattle.units.specs.declared.Area.{Area}
 use Rattle.units.specs.declared.Depth.{Depth}
 use Rattle.units.specs.declared.DepthAnswer.{DepthAnswer}
-use Rattle.units.specs.declared.DepthAnswer.the-variants.{Granted, Refused}
+use Rattle.units.specs.declared.DepthAnswer.the-variants as depth
+use Rattle.units.specs.declared.Nutrient.{Nutrient}
 use Rattle.units.specs.Limits.{largest, mostPercent, lowestDepth}
+use Rattle.site.specs.declared.SubArea.{SubArea}
 use Rattle.site.specs.declared.Site.{Site}
+use Rattle.site.specs.declared.AreaAnswer.{AreaAnswer}
 use Rattle.site.specs.declared.AreaAnswer.the-variants as area
 use Rattle.site.specs.Parts.{partsOf}
 use Rattle.site.specs.Judging.{judged}
-use Rattle.volume.specs.Areas.{areasOf, Six}
+use Rattle.loads.specs.Loads.{loadOf}
+use Rattle.volume.specs.Areas.{areaAt, noAreas, areasOf, volumeFrom, Six}
+use Rattle.curve.specs.declared.Mode.{Mode}
+use Rattle.published.specs.Tables.{depths}
+use Rattle.published.specs.Published.{ratesOf, percentsOf, isPublished}
+use Rattle.credit.specs.declared.CreditAnswer.{CreditAnswer}
+use Rattle.credit.specs.declared.CreditAnswer.the-variants.{Refused}
+use Rattle.credit.specs.declared.Survey.{Survey}
+use Rattle.credit.specs.declared.Wanted.{Wanted}
+use Rattle.credit.specs.Answers.{onSheet}
 
 -- the six areas of a site, with a load and a percent within their limits
 pub record Work (xs : List Area) (load percent : ℕ) : Type 0 where
@@ -22,11 +36,25 @@ pub record Work (xs : List Area) (load percent : ℕ) : Type 0 where
 
 -- the depth of an answer, 0 where it is refused
 abbrev pub depthIn : DepthAnswer → Depth
-depthIn (Granted d) = d
-depthIn (Refused why) = record { 0 = lowestDepth }
+depthIn (depth.Granted d) = d
+depthIn (depth.Refused why) = record { 0 = lowestDepth }
 
--- a site that is judged fine, and its six areas
-pub record Land (s : Site) (xs : List Area) : Type 0 where
-  pub total : Area
-  pub fine : judged s ≡ area.Granted total
-  pub gathered : xs ≡ areasOf (partsOf s)
+-- the work on the published sheet of a practice: one that has none is refused 4
+abbrev pub onPractice : Wanted → ℕ → List Area → ℕ → Nutrient → Mode → ℕ → CreditAnswer
+onPractice wanted load xs practice n mode r =
+    inTurn Refused
+    (onSheet wanted load (areaAt xs 0) (volumeFrom xs) depths (ratesOf practice n) (percentsOf practice n) mode r)
+    ((isPublished practice n, NoPublishedSheet) ∷ [])
+
+-- a refused record has no areas and no load
+abbrev pub unsurveyed : Refusal → Survey
+unsurveyed why = record { answer = area.Refused why; areas = record { of = noAreas }; load = record { 0 = 0 } }
+
+-- what a walk over sub-areas finds under a table of rates, by the judging of their record: the total area, the six areas and the load
+abbrev pub surveyedBy : List ℕ → List SubArea → AreaAnswer → Survey
+surveyedBy rates ps (area.Granted total) =
+    record { answer = area.Granted total; areas = record { of = areasOf ps }; load = record { 0 = loadOf rates ps } }
+surveyedBy rates ps (area.Refused why) = unsurveyed why
+
+unfoldable pub surveyed : List ℕ → Site → Survey
+surveyed rates s = surveyedBy rates (partsOf s) (judged s)

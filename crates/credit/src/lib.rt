@@ -5,10 +5,10 @@ ghost use Rattle.units.specs.Limits.{largest, mostPercent, highestDepth};
 ghost use Rattle.volume.specs.Areas.{areaAt, volumeFrom, Six};
 ghost use Rattle.volume.specs.Answers.{depthOn};
 ghost use Rattle.credit.specs.Credit.{figuresOf, creditBy, sizedAt};
-ghost use Rattle.site.specs.Parts.{partsOf};
 ghost use Rattle.published.specs.Published.{depthsIn, between, Standing};
-ghost use Rattle.credit.specs.Answers.{Sheet, onSheet, onParts, bySheet, answerOf};
-ghost use Rattle.credit.specs.Working.{Work, Land, depthIn};
+ghost use Rattle.loads.specs.Rates.{ratesOf};
+ghost use Rattle.credit.specs.Answers.{Sheet, onSheet, answerOf};
+ghost use Rattle.credit.specs.Working.{Work, depthIn, onPractice, unsurveyed, surveyed};
 use curve::Mode;
 use curve::PercentAnswer;
 use curve::Reached;
@@ -199,11 +199,10 @@ fn size_by(
     }
 }
 
-// The work for both kinds of sheet: on a site that is judged fine, with its six areas beside it.
+// The work for both kinds of sheet, on the six areas and the load of a site.
 fn on_sheet(
-    site: Site,
     areas: Areas,
-    nutrient: Nutrient,
+    load: Load,
     depths: &[u64],
     rates: &[u64],
     percents: &[u64],
@@ -211,21 +210,135 @@ fn on_sheet(
     rate: Rate,
     wanted: Wanted,
 ) -> CreditAnswer
-    requires { ⌜ Land site (areas .of) ⌝ }
-    ensures { λ r. ⌜ r ≡ onParts wanted nutrient (partsOf site) (now (depths .entry)) (now (rates .entry)) (now (percents .entry)) mode (rate .0) ⌝ }
+    requires { ⌜ Work (areas .of) (load .0) 0 ⌝ }
+    ensures { λ r. ⌜ r ≡ onSheet wanted (load .0) (areaAt (areas .of) 0) (volumeFrom (areas .of)) (now (depths .entry)) (now (rates .entry)) (now (percents .entry)) mode (rate .0) ⌝ }
 {
-    let found = loads::load(site, nutrient);
-    match found {
-        LoadAnswer::Granted(load) => match wanted {
-            Wanted::Credit(volume) => {
-                credit_by(areas, load, depths, rates, percents, mode, rate, volume)
-            }
-            Wanted::Size(target) => {
-                size_by(areas, load, depths, rates, percents, mode, rate, target)
-            }
-        },
-        LoadAnswer::Refused(why) => CreditAnswer::Refused(why),
+    match wanted {
+        Wanted::Credit(volume) => {
+            credit_by(areas, load, depths, rates, percents, mode, rate, volume)
+        }
+        Wanted::Size(target) => {
+            size_by(areas, load, depths, rates, percents, mode, rate, target)
+        }
     }
+}
+
+// The work on the sheet that stands at a place of the published ones.
+fn on_table(
+    areas: Areas,
+    load: Load,
+    all: &[u64],
+    rates: usize,
+    percents: usize,
+    end: usize,
+    mode: Mode,
+    rate: Rate,
+    wanted: Wanted,
+) -> CreditAnswer
+    requires { ⌜ Work (areas .of) (load .0) 0 ⌝ }
+    requires { ⌜ Standing (now all) rates percents end ⌝ }
+    ensures { λ r. ⌜ r ≡ onSheet wanted (load .0) (areaAt (areas .of) 0) (volumeFrom (areas .of)) (depthsIn (now (all .entry))) (between (now (all .entry)) rates percents) (between (now (all .entry)) percents end) mode (rate .0) ⌝ }
+{
+    on_sheet(
+        areas,
+        load,
+        &all[..published::DEPTHS],
+        &all[rates..percents],
+        &all[percents..end],
+        mode,
+        rate,
+        wanted,
+    )
+}
+
+// The work on the published sheet of a practice.
+fn on_practice(
+    areas: Areas,
+    load: Load,
+    nutrient: Nutrient,
+    practice: u64,
+    mode: Mode,
+    rate: Rate,
+    wanted: Wanted,
+) -> CreditAnswer
+    requires { ⌜ Work (areas .of) (load .0) 0 ⌝ }
+    ensures { λ r. ⌜ r ≡ onPractice wanted (load .0) (areas .of) practice nutrient mode (rate .0) ⌝ }
+{
+    let found = published::find(practice, nutrient);
+    match found {
+        Place::At {
+            rates,
+            percents,
+            end,
+        } => {
+            let all = published::sheets();
+            on_table(areas, load, &all, rates, percents, end, mode, rate, wanted)
+        }
+        Place::Refused(why) => CreditAnswer::Refused(why),
+    }
+}
+
+// What a walk over a site finds: its total area or its record's refusal, its six areas and its load. A refused record
+// has no areas and no load.
+struct Survey {
+    answer: AreaAnswer,
+    areas: Areas,
+    load: Load,
+}
+
+fn no_survey(why: Refusal) -> Survey
+    ensures { λ r. ⌜ r ≡ unsurveyed why ⌝ }
+{
+    Survey {
+        answer: AreaAnswer::Refused(why),
+        areas: Areas { of: [Area(0); 6] },
+        load: Load(0),
+    }
+}
+
+// One walk over a record judges it, gathers its six areas and sums its load under a table of rates.
+fn walk_under(site: Site, rates: &[u16; 16]) -> Survey
+    ensures { λ r. ⌜ r ≡ surveyed (now (rates .entry)) site ⌝ }
+{
+    let count = site.count;
+    if site::MOST_PARTS < count {
+        return no_survey(Refusal::SiteFull);
+    }
+    let mut total = Area(0);
+    let mut of = [Area(0); 6];
+    let mut load: u64 = 0;
+    let mut i = 0;
+    while i < count {
+        let part = site.parts[i];
+        let answer = site::add_answer(i, total, part);
+        match answer {
+            AreaAnswer::Granted(more) => {
+                let area = part.area;
+                let at = volume::area_place(part);
+                let old = of[at];
+                of[at] = Area(old.0 + area.0);
+                load += area.0 * loads::rate_of(part, rates);
+                total = more;
+                i += 1;
+            }
+            AreaAnswer::Refused(why) => {
+                return no_survey(why);
+            }
+        }
+    }
+    Survey {
+        answer: AreaAnswer::Granted(total),
+        areas: Areas { of },
+        load: Load(load),
+    }
+}
+
+// The walk under the permit's table.
+fn walk(site: Site, nutrient: Nutrient) -> Survey
+    ensures { λ r. ⌜ r ≡ surveyed (ratesOf nutrient) site ⌝ }
+{
+    let table = loads::rates(nutrient);
+    walk_under(site, &table)
 }
 
 // Crediting or sizing on a lent sheet.
@@ -241,92 +354,15 @@ pub fn answer_on(
 ) -> CreditAnswer
     ensures { λ r. ⌜ r ≡ answerOf (Sheet.lent (now (depths .entry)) (now (rates .entry)) (now (percents .entry))) wanted nutrient site mode (rate .0) ⌝ }
 {
-    let found = volume::gather(site);
+    let found = walk(site, nutrient);
     let answer = found.answer;
     let areas = found.areas;
+    let load = found.load;
     match answer {
         AreaAnswer::Granted(_) => {
-            on_sheet(
-                site,
-                areas,
-                nutrient,
-                depths,
-                rates,
-                percents,
-                mode,
-                rate,
-                wanted,
-            )
+            on_sheet(areas, load, depths, rates, percents, mode, rate, wanted)
         }
         AreaAnswer::Refused(why) => CreditAnswer::Refused(why),
-    }
-}
-
-// The work on the sheet that stands at a place of the published ones.
-fn on_table(
-    site: Site,
-    areas: Areas,
-    nutrient: Nutrient,
-    all: &[u64],
-    rates: usize,
-    percents: usize,
-    end: usize,
-    mode: Mode,
-    rate: Rate,
-    wanted: Wanted,
-) -> CreditAnswer
-    requires { ⌜ Land site (areas .of) ⌝ }
-    requires { ⌜ Standing (now all) rates percents end ⌝ }
-    ensures { λ r. ⌜ r ≡ onParts wanted nutrient (partsOf site) (depthsIn (now (all .entry))) (between (now (all .entry)) rates percents) (between (now (all .entry)) percents end) mode (rate .0) ⌝ }
-{
-    on_sheet(
-        site,
-        areas,
-        nutrient,
-        &all[..published::DEPTHS],
-        &all[rates..percents],
-        &all[percents..end],
-        mode,
-        rate,
-        wanted,
-    )
-}
-
-// The work on the published sheet of a practice.
-fn on_practice(
-    site: Site,
-    areas: Areas,
-    nutrient: Nutrient,
-    practice: u64,
-    mode: Mode,
-    rate: Rate,
-    wanted: Wanted,
-) -> CreditAnswer
-    requires { ⌜ Land site (areas .of) ⌝ }
-    ensures { λ r. ⌜ r ≡ bySheet (Sheet.published practice) wanted nutrient (partsOf site) mode (rate .0) ⌝ }
-{
-    let found = published::find(practice, nutrient);
-    match found {
-        Place::At {
-            rates,
-            percents,
-            end,
-        } => {
-            let all = published::sheets();
-            on_table(
-                site,
-                areas,
-                nutrient,
-                &all,
-                rates,
-                percents,
-                end,
-                mode,
-                rate,
-                wanted,
-            )
-        }
-        Place::Refused(why) => CreditAnswer::Refused(why),
     }
 }
 
@@ -341,11 +377,12 @@ pub fn answer(
 ) -> CreditAnswer
     ensures { λ r. ⌜ r ≡ answerOf (Sheet.published practice) wanted nutrient site mode (rate .0) ⌝ }
 {
-    let found = volume::gather(site);
+    let found = walk(site, nutrient);
     let answer = found.answer;
     let areas = found.areas;
+    let load = found.load;
     match answer {
-        AreaAnswer::Granted(_) => on_practice(site, areas, nutrient, practice, mode, rate, wanted),
+        AreaAnswer::Granted(_) => on_practice(areas, load, nutrient, practice, mode, rate, wanted),
         AreaAnswer::Refused(why) => CreditAnswer::Refused(why),
     }
 }

@@ -133,8 +133,8 @@ fn wide(x: u16) -> u64
     x as u64
 }
 
-// The rate of a sub-area.
-fn rate_of(part: SubArea, rates: &[u16; 16]) -> u64
+// The rate of a sub-area in a table of rates that is lent.
+pub fn rate_of(part: SubArea, rates: &[u16; 16]) -> u64
     ensures { λ r. ⌜ (r ≡ getD (now (rates .entry)) (ratePlace part) 0) × (r ≤ tableMost) ⌝ }
 {
     let place = rate_place(part);

@@ -1,14 +1,13 @@
--- Laws of the judging of a record, sub-area by sub-area.
+-- Laws of the judging of a record: what one that is judged fine has.
 -- Assumes nothing.
-use Prim.Native.Nat.{ℕ, _+_, _≤_, _<_}
-use mathlib.Core.Bool.{Bool, true, false, not, and-eq-true-iff}
+use Prim.Native.Nat.{ℕ, _+_, _≤_}
+use mathlib.Core.Bool.{Bool, true, false, and-eq-true-iff}
 use mathlib.Core.Path.{_≡_, refl, sym, _∙_, ap}
 use mathlib.Core.List.{List, [], _∷_}
 use native.Mathlib.Nat.{add-assoc, add-zero, zero-add}
 use native.Mathlib.Omega.{arith}
 use lib.Dec.{leb}
-use lib.ListN.{drop, getD}
-use borrow.Author.Tests.{le-leb, lt-leb, leb-true, not-true, not-false}
+use borrow.Author.Tests.{le-leb, leb-true}
 use Rattle.laws.specs.Sum.{sumOf}
 use Rattle.laws.specs.Turn.{inTurn}
 use Rattle.refusal.specs.declared.Refusal.{Refusal}
@@ -19,60 +18,9 @@ use Rattle.site.specs.declared.SubArea.{SubArea}
 use Rattle.site.specs.declared.Site.{Site}
 use Rattle.site.specs.declared.AreaAnswer.{AreaAnswer}
 use Rattle.site.specs.declared.AreaAnswer.the-variants.{Granted, Refused}
-use Rattle.site.specs.Parts.{partsOf, areaOf, blank, mostParts, totalArea}
+use Rattle.site.specs.Parts.{partsOf, areaOf, mostParts, totalArea}
 use Rattle.site.specs.Judging.{fits, hasRoom, judgedFrom, judged, afterJudging, Fine}
 use Rattle.site.specs.Promises.{allFit}
-use Rattle.site.proofs.Parts.{Whole, part-at, none-left}
-
--- The sub-areas before place i passed and have the total area; what is left decides.
-pub record Running (s : Site) (i total : ℕ) : Type 0 where
-  pub whole : Whole s
-  pub small : total ≤ mostArea
-  pub rest : judgedFrom total (drop i (partsOf s)) ≡ judged s
-
--- A count above 32 is refused.
-pub overfull : (s : Site) → mostParts < s .count → Refused SiteFull ≡ judged s
-unfolding judged
-overfull s h = simp (lt-leb _ _ h)
-
-pub starts : (s : Site) → Whole s → Running s 0 0
-unfolding judged
-starts s w = record { whole = w; small = omega arith; rest = simp (le-leb _ _ (w .count)) }
-
--- the judging of what is left, with the sub-area at place i told apart
-turn : (s : Site) (i total : ℕ) → Running s i total → i < s .count
-    → judgedFrom total (getD (s .parts) i blank ∷ drop (i + 1) (partsOf s)) ≡ judged s
-turn s i total r h = rw (part-at s i (r .whole) h) at (r .rest)
-
--- A sub-area that does not fit is refused.
-pub unfit : (s : Site) (i total : ℕ) {b : Bool} → Running s i total → i < s .count
-    → b ≡ fits (getD (s .parts) i blank) → not b ≡ true → Refused UnfitSubArea ≡ judged s
-unfolding judgedFrom
-unfit s i total r h e f = simp (sym e ∙ not-true _ f) at (turn s i total r h)
-
--- One that fits and finds no room is refused.
-pub crowded : (s : Site) (i total : ℕ) {b d : Bool} → Running s i total → i < s .count
-    → b ≡ fits (getD (s .parts) i blank) → not b ≡ false → d ≡ hasRoom total (areaOf (getD (s .parts) i blank)) → not d ≡ true
-    → Refused TotalAreaPassed ≡ judged s
-unfolding judgedFrom
-crowded s i total r h e f e' f' = simp (sym e ∙ not-false _ f, sym e' ∙ not-true _ f') at (turn s i total r h)
-
--- One that fits and finds room passes.
-pub passes : (s : Site) (i total : ℕ) {b d : Bool} → Running s i total → i < s .count
-    → b ≡ fits (getD (s .parts) i blank) → not b ≡ false → d ≡ hasRoom total (areaOf (getD (s .parts) i blank)) → not d ≡ false
-    → Running s (i + 1) (total + areaOf (getD (s .parts) i blank))
-unfolding judgedFrom
-passes s i total r h e f e' f' =
-    record {
-      whole = r .whole;
-      small = leb-true _ _ (sym e' ∙ not-false _ f');
-      rest = simp (sym e ∙ not-false _ f, sym e' ∙ not-false _ f') at (turn s i total r h);
-    }
-
--- Where none is left, the total area is granted.
-pub ends : (s : Site) (i total : ℕ) → Running s i total → s .count ≤ i → Granted (record { 0 = total }) ≡ judged s
-unfolding judgedFrom
-ends s i total r h = rw (none-left s i (r .whole) h) at (r .rest)
 
 -- No refusal is a grant.
 pub never-granted : {why : Refusal} {a : Area} → Refused why ≡ Granted a → ⊥

@@ -15,17 +15,17 @@ use Rattle.site.specs.Soils.{suits}
 use Rattle.site.specs.Parts.{areaOf}
 use Rattle.site.specs.Judging.{fits, hasRoom}
 
--- A total past the largest leaves no room.
-pub no-room : (total area : ℕ) → mostArea < total → false ≡ hasRoom total area
+-- An area past the largest finds no room.
+pub no-room : (total area : ℕ) → mostArea < area → false ≡ hasRoom total area
 no-room total area h = sym (lt-leb (total + area) mostArea (omega arith))
 
--- Another total leaves what is missing to the largest.
-pub room : (total area : ℕ) → total ≤ mostArea → leb area (mostArea - total) ≡ hasRoom total area
-room total area h = told (leb area (mostArea - total)) refl
+-- For another there is room up to what it leaves of the largest.
+pub room : (total area : ℕ) → area ≤ mostArea → leb total (mostArea - area) ≡ hasRoom total area
+room total area h = told (leb total (mostArea - area)) refl
   where
-    told : (b : Bool) → leb area (mostArea - total) ≡ b → b ≡ hasRoom total area
-    told true e = sym (le-leb (total + area) mostArea (let l = leb-true area (mostArea - total) e in omega arith))
-    told false e = sym (lt-leb (total + area) mostArea (let l = leb-false area (mostArea - total) e in omega arith))
+    told : (b : Bool) → leb total (mostArea - area) ≡ b → b ≡ hasRoom total area
+    told true e = sym (le-leb (total + area) mostArea (let l = leb-true total (mostArea - area) e in omega arith))
+    told false e = sym (lt-leb (total + area) mostArea (let l = leb-false total (mostArea - area) e in omega arith))
 
 -- An area below 1 does not fit.
 pub too-small : (p : SubArea) → areaOf p < 1 → false ≡ fits p

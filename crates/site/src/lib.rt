@@ -140,10 +140,10 @@ fn part_fits(part: SubArea) -> bool
 fn has_room(total: u64, area: u64) -> bool
     ensures { λ r. ⌜ r ≡ hasRoom total area ⌝ }
 {
-    if units::MOST_AREA < total {
+    if units::MOST_AREA < area {
         return false;
     }
-    area <= units::MOST_AREA - total
+    total <= units::MOST_AREA - area
 }
 
 // A site without sub-areas.
@@ -162,7 +162,7 @@ pub fn empty() -> Site
     }
 }
 
-// A record that is judged fine answers with its total area.
+// A record that is judged fine answers with its total area: each sub-area is tried as an add to those before it.
 pub fn judge(site: Site) -> AreaAnswer
     ensures { λ r. ⌜ r ≡ judged site ⌝ }
 {
@@ -170,21 +170,22 @@ pub fn judge(site: Site) -> AreaAnswer
     if MOST_PARTS < count {
         return AreaAnswer::Refused(Refusal::SiteFull);
     }
-    let mut total: u64 = 0;
+    let mut total = Area(0);
     let mut i = 0;
     while i < count {
         let part = site.parts[i];
-        if !part_fits(part) {
-            return AreaAnswer::Refused(Refusal::UnfitSubArea);
+        let answer = add_answer(i, total, part);
+        match answer {
+            AreaAnswer::Granted(more) => {
+                total = more;
+                i += 1;
+            }
+            AreaAnswer::Refused(why) => {
+                return AreaAnswer::Refused(why);
+            }
         }
-        let area = part.area;
-        if !has_room(total, area.0) {
-            return AreaAnswer::Refused(Refusal::TotalAreaPassed);
-        }
-        total += area.0;
-        i += 1;
     }
-    AreaAnswer::Granted(Area(total))
+    AreaAnswer::Granted(total)
 }
 
 // A sub-area's part in the impervious area.

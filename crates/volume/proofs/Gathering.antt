@@ -35,7 +35,7 @@ pub place-within : (p : SubArea) → areaPlace p ≤ 5
 place-within p = under-most (p .cover) (columnPlace (runoffColumn (p .soil))) (place-most (runoffColumn (p .soil)))
 
 -- Adding to what stands at a place adds to the total.
-total-set : (xs : List Area) (k a : ℕ) → k < length xs → totalOf (set xs k (record { 0 = areaAt xs k + a })) ≡ totalOf xs + a
+pub total-set : (xs : List Area) (k a : ℕ) → k < length xs → totalOf (set xs k (record { 0 = areaAt xs k + a })) ≡ totalOf xs + a
 unfolding sumOf
 total-set [] k a h = absurd (omega arith)
 total-set (x ∷ xs) ℕ.zero a h = omega arith

@@ -32,7 +32,7 @@ pub struct Areas {
 }
 
 // The place of a sub-area's area among the six.
-fn area_place(part: SubArea) -> usize
+pub fn area_place(part: SubArea) -> usize
     ensures { λ r. ⌜ (r ≡ areaPlace part) × (r ≤ 5) ⌝ }
 {
     let cover = part.cover;

@@ -1,4 +1,4 @@
--- `site::has_room` meets its contract: the test that led to each answer is the definition's, with the total taken to the other side.
+-- `site::has_room` meets its contract: the test that led to each answer is the definition's, with the area taken to the other side.
 -- Assumes nothing.
 use borrow.Author.Needs.{needs}
 use Rattle.site.proofs.Tests.{no-room, room}
