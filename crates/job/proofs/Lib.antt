@@ -1,6 +1,8 @@
+pub mod Scanning
+pub mod Valued
 pub mod Heads
 pub mod Fields
-pub mod Valued
+pub mod AreaLines
 pub mod Walking
 pub mod Whole
 pub mod Faults

@@ -4,9 +4,13 @@ ghost use Prim.Native.Nat.{_<_};
 ghost use Rattle.text.specs.Words.{Within};
 ghost use Rattle.job.specs.Words.{landAt, coverAt, soilAt};
 ghost use Rattle.site.specs.Parts.{emptySite};
+ghost use mathlib.Core.List.{[]};
+ghost use lib.ListN.{drop};
 ghost use Rattle.job.specs.Lines.{linesOf};
-ghost use Rattle.job.specs.Areas.{subAreaFrom, subAreaOf, areaIn, addedLine, endedAt, areasFrom};
+ghost use Rattle.job.specs.Areas.{subAreaFrom, endedAt, areasFrom};
+ghost use Rattle.job.specs.Scanning.{Lined};
 use super::AreaLine;
+use super::AreaStep;
 use super::Job;
 use super::JobAnswer;
 use super::Reading;
@@ -14,7 +18,6 @@ use super::lines;
 use super::refused;
 use super::words;
 use refusal::Refusal;
-use site::Added;
 use site::AreaAnswer;
 use site::Cover;
 use site::LandUse;
@@ -92,46 +95,29 @@ fn sub_area(land: Found, cover: Found, soil: Found, area: Numeral) -> AreaLine
     })
 }
 
-// The sub-area that the value of an area line says.
-fn fields(value: &[u8]) -> AreaLine
-    ensures { λ r. ⌜ r ≡ subAreaOf (now (value .entry)) ⌝ }
+// The sub-area that the area line at a place of a text says, with the place behind the line.
+fn read_area(text: &[u8], at: usize) -> AreaStep
+    ensures { λ r. ⌜ Lined (now (text .entry)) at r ⌝ }
 {
-    let behind_land = text::after(value, b',');
-    let behind_cover = text::after(behind_land, b',');
-    let land = text::find_word(&words::LANDS, text::before(value, b','));
-    let cover = text::find_word(&words::COVERS, text::before(behind_land, b','));
-    let soil = text::find_word(&words::SOILS, text::before(behind_cover, b','));
-    let area = text::number(text::after(behind_cover, b','));
-    sub_area(land, cover, soil, area)
-}
-
-// The sub-area that the first line of a text says.
-fn read_area(text: &[u8]) -> AreaLine
-    ensures { λ r. ⌜ r ≡ areaIn (linesOf (now (text .entry))) ⌝ }
-{
-    fields(lines::value(text, b"area="))
-}
-
-// A line's form before its adding.
-fn add_line(site: Site, total: Area, line: AreaLine) -> Added
-    ensures { λ r. ⌜ r ≡ addedLine site (total .0) line ⌝ }
-{
-    match line {
-        AreaLine::Malformed => Added {
-            answer: AreaAnswer::Refused(Refusal::MalformedText),
-            site,
-        },
-        AreaLine::Is(part) => site::add_to(site, total, part),
+    let from = text::behind(text, at, b"area=");
+    let land = text::word_at(&words::LANDS, words::LAND_WIDTH, text, from, b',');
+    let cover = text::word_at(&words::COVERS, words::COVER_WIDTH, text, land.next, b',');
+    let soil = text::word_at(&words::SOILS, words::SOIL_WIDTH, text, cover.next, b',');
+    let area = lines::number(text, soil.next);
+    let of_land = land.place;
+    let of_cover = cover.place;
+    let of_soil = soil.place;
+    let of_area = area.numeral;
+    AreaStep {
+        read: sub_area(of_land, of_cover, of_soil, of_area),
+        next: area.next,
     }
 }
 
-// What the areas come to where no ended line is left: rest is what is left of the text.
-fn ended(job: Job, rest: &[u8], line: usize, site: Site) -> Reading
-    ensures { λ r. ⌜ r ≡ endedAt job (now (rest .entry)) line site ⌝ }
+// What the areas come to at the end of the text.
+fn ended(job: Job, line: usize, site: Site) -> Reading
+    ensures { λ r. ⌜ r ≡ endedAt job [] line site ⌝ }
 {
-    if rest.len() != 0 {
-        return refused(line, Refusal::MalformedText);
-    }
     let count = site.count;
     if count < 1 {
         return refused(line, Refusal::MalformedText);
@@ -142,17 +128,22 @@ fn ended(job: Job, rest: &[u8], line: usize, site: Site) -> Reading
     }
 }
 
-// The areas of a text that starts at line 7.
-pub fn read_areas(job: Job, text: &[u8]) -> Reading
-    ensures { λ r. ⌜ r ≡ areasFrom job (linesOf (now (text .entry))) 7 emptySite 0 ⌝ }
+// The areas of a text from a place on, at which line 7 starts.
+pub fn read_areas(job: Job, text: &[u8], from: usize) -> Reading
+    ensures { λ r. ⌜ r ≡ areasFrom job (linesOf (drop from (now (text .entry)))) 7 emptySite 0 ⌝ }
 {
-    let mut rest = text;
+    let mut at = from;
     let mut line = 7;
     let mut site = site::empty();
     let mut total = Area(0);
-    while text::has(rest, b'\n') {
-        let added = add_line(site, total, read_area(rest));
-        let answer = added.answer;
+    while at < text.len() {
+        let found = read_area(text, at);
+        let read = found.read;
+        let AreaLine::Is(part) = read else {
+            return refused(line, Refusal::MalformedText);
+        };
+        let count = site.count;
+        let answer = site::add_answer(count, total, part);
         match answer {
             AreaAnswer::Granted(more) => {
                 total = more;
@@ -161,11 +152,10 @@ pub fn read_areas(job: Job, text: &[u8]) -> Reading
                 return refused(line, why);
             }
         }
-        let grown = added.site;
-        site = grown;
-        let next = text::after(rest, b'\n');
-        rest = next;
+        site.parts[count] = part;
+        site.count = count + 1;
+        at = found.next;
         line += 1;
     }
-    ended(job, rest, line, site)
+    ended(job, line, site)
 }

@@ -3,16 +3,21 @@ ghost use mathlib.Core.Path.{_≡_};
 ghost use Prim.Native.Nat.{_<_};
 ghost use Rattle.text.specs.Words.{Within};
 ghost use Rattle.job.specs.Words.{nutrientAt, modeAt, taskAt};
-ghost use Rattle.job.specs.Lines.{linesOf};
-ghost use Rattle.job.specs.Head.{headFrom, headOf};
+ghost use Rattle.job.specs.Head.{headFrom};
+ghost use Rattle.text.specs.Pieces.{lineFeed};
+ghost use Rattle.text.specs.Words.{behindOf, rowsOf, wordFrom};
+ghost use Rattle.job.specs.Scanning.{countedAt, Headed};
 use super::HeadRead;
+use super::HeadStep;
 use super::Job;
+use super::NumberStep;
 use super::Task;
 use super::lines;
 use super::words;
 use curve::Mode;
 use text::Found;
 use text::Numeral;
+use text::WordStep;
 use units::Nutrient;
 use units::Rate;
 
@@ -80,15 +85,63 @@ fn judged(
     })
 }
 
-// The head of a text.
-pub fn read_head(text: &[u8]) -> HeadRead
-    ensures { λ r. ⌜ r ≡ headOf (linesOf (now (text .entry))) ⌝ }
+// The place of the word of a list that the line at a place of a text says.
+fn word(text: &[u8], at: usize, key: &[u8], words: &[u8], width: usize) -> WordStep
+    ensures { λ r. ⌜ r ≡ wordFrom (rowsOf width (now (words .entry))) lineFeed (now (text .entry)) (behindOf (now (key .entry)) (now (text .entry)) at) 0 ⌝ }
 {
-    let practice = lines::word(text, 0, b"practice=", &words::PRACTICES);
-    let nutrient = lines::word(text, 1, b"nutrient=", &words::NUTRIENTS);
-    let mode = lines::word(text, 2, b"mode=", &words::MODES);
-    let rate = lines::number(text, 3, b"rate=");
-    let task = lines::word(text, 4, b"task=", &words::TASKS);
-    let amount = lines::number(text, 5, b"amount=");
-    judged(practice, nutrient, mode, rate, task, amount)
+    text::word_at(words, width, text, text::behind(text, at, key), b'\n')
+}
+
+// The number that the line at a place of a text says.
+fn number(text: &[u8], at: usize, key: &[u8]) -> NumberStep
+    ensures { λ r. ⌜ r ≡ countedAt (now (text .entry)) (behindOf (now (key .entry)) (now (text .entry)) at) ⌝ }
+{
+    lines::number(text, text::behind(text, at, key))
+}
+
+// The head of a text, with the place behind it.
+pub fn read_head(text: &[u8]) -> HeadStep
+    ensures { λ r. ⌜ Headed (now (text .entry)) r ⌝ }
+{
+    let practice = word(
+        text,
+        0,
+        b"practice=",
+        &words::PRACTICES,
+        words::PRACTICE_WIDTH,
+    );
+    let nutrient = word(
+        text,
+        practice.next,
+        b"nutrient=",
+        &words::NUTRIENTS,
+        words::NUTRIENT_WIDTH,
+    );
+    let mode = word(
+        text,
+        nutrient.next,
+        b"mode=",
+        &words::MODES,
+        words::MODE_WIDTH,
+    );
+    let rate = number(text, mode.next, b"rate=");
+    let task = word(text, rate.next, b"task=", &words::TASKS, words::TASK_WIDTH);
+    let amount = number(text, task.next, b"amount=");
+    let of_practice = practice.place;
+    let of_nutrient = nutrient.place;
+    let of_mode = mode.place;
+    let of_rate = rate.numeral;
+    let of_task = task.place;
+    let of_amount = amount.numeral;
+    HeadStep {
+        read: judged(
+            of_practice,
+            of_nutrient,
+            of_mode,
+            of_rate,
+            of_task,
+            of_amount,
+        ),
+        next: amount.next,
+    }
 }

@@ -8,13 +8,14 @@ use curve::Mode;
 use refusal::Refusal;
 use site::Site;
 use site::SubArea;
+use text::Numeral;
 use units::Nutrient;
 use units::Rate;
 
 mod areas;
 mod head;
 mod lines;
-pub mod words;
+mod words;
 
 pub enum Task {
     Load,
@@ -45,6 +46,24 @@ enum AreaLine {
     Malformed,
 }
 
+// A number read where it stands.
+struct NumberStep {
+    numeral: Numeral,
+    next: usize,
+}
+
+// The head read, and the place behind it.
+struct HeadStep {
+    read: HeadRead,
+    next: usize,
+}
+
+// An area line read, and the place behind it.
+struct AreaStep {
+    read: AreaLine,
+    next: usize,
+}
+
 // The job, or the refusal with its line, counted from 1.
 pub enum JobAnswer {
     Granted(Job),
@@ -66,8 +85,6 @@ pub struct Reading {
 // The longest job text, in bytes.
 pub const MOST_BYTES: usize = 4096;
 
-const HEAD_LINES: usize = 6;
-
 // A refused reading.
 fn refused(line: usize, why: Refusal) -> Reading
     ensures { λ r. ⌜ r ≡ refusedAt line why ⌝ }
@@ -85,10 +102,11 @@ pub fn read(text: &[u8]) -> Reading
     if MOST_BYTES < text.len() {
         return refused(0, Refusal::MalformedText);
     }
-    let found = head::read_head(text);
+    let head = head::read_head(text);
+    let found = head.read;
     match found {
         HeadRead::Bad(line) => refused(line, Refusal::MalformedText),
-        HeadRead::Fine(job) => areas::read_areas(job, text::from_piece(text, b'\n', HEAD_LINES)),
+        HeadRead::Fine(job) => areas::read_areas(job, text, head.next),
     }
 }
 

@@ -14,15 +14,15 @@ use borrow.Author.Tests.{ltb-false}
 use Rattle.laws.proofs.Order.{lt-or-le}
 use Rattle.text.specs.Part.{partOf}
 use Rattle.text.specs.Pieces.{indexOf, hasOf, beforeOf, afterOf, pieces, nextOf, startOf, endOf}
-use Rattle.text.proofs.Parts.{part-tail, part-head}
+use Rattle.text.proofs.Parts.{part-tail, part-head, drop-within}
 use Rattle.text.proofs.Splitting.{index-within, pieces-step, start-within}
 
 -- ps are the pieces of the text t that is left; past the last piece nothing is left of either
-abbrev pub Rest : ℕ → List ℕ → List (List ℕ) → Type 0
+abbrev Rest : ℕ → List ℕ → List (List ℕ) → Type 0
 Rest b t ps = (ps ≡ pieces b t) ⊎ ((ps ≡ []) × (t ≡ []))
 
 -- nothing stands after a byte that is not there
-after-none : (b : ℕ) (t : List ℕ) → hasOf b t ≡ false → afterOf b t ≡ []
+pub after-none : (b : ℕ) (t : List ℕ) → hasOf b t ≡ false → afterOf b t ≡ []
 after-none b t h =
     let l = ltb-false (indexOf b t) (length t) h in
     part-tail t (indexOf b t + 1) ∙ drop-of-length-le t {i = indexOf b t + 1} (omega arith)
@@ -31,7 +31,7 @@ after-nothing : (b : ℕ) → afterOf b [] ≡ []
 after-nothing b = part-tail [] (indexOf b [] + 1) ∙ drop-nil (indexOf b [] + 1)
 
 -- behind the first piece stand the others
-pub rest-after : (b : ℕ) (t : List ℕ) (ps : List (List ℕ)) → Rest b t ps → Rest b (afterOf b t) (drop 1 ps)
+rest-after : (b : ℕ) (t : List ℕ) (ps : List (List ℕ)) → Rest b t ps → Rest b (afterOf b t) (drop 1 ps)
 rest-after b t ps (inl e) = at (hasOf b t) refl
   where
     at : (h : Bool) → hasOf b t ≡ h → Rest b (afterOf b t) (drop 1 ps)
@@ -40,16 +40,9 @@ rest-after b t ps (inl e) = at (hasOf b t) refl
 rest-after b t ps (inr p) = inr (rw (p .0), rw (p .1) (after-nothing b))
 
 -- the first piece of what is left
-pub rest-first : (b : ℕ) (t : List ℕ) (ps : List (List ℕ)) → Rest b t ps → getD ps 0 [] ≡ beforeOf b t
+rest-first : (b : ℕ) (t : List ℕ) (ps : List (List ℕ)) → Rest b t ps → getD ps 0 [] ≡ beforeOf b t
 rest-first b t ps (inl e) = rw (e, pieces-step b t)
 rest-first b t ps (inr p) = rw (p .0, p .1, part-head [] (indexOf b [])) (sym (take-nil (indexOf b [])))
-
--- a place past the end may be drawn in to it
-drop-within : (s : List ℕ) (n : ℕ) → drop (min n (length s)) s ≡ drop n s
-drop-within s n =
-    ⊎-elim (λ (h : n < length s). rw (min-eq-left {n = n} {m = length s} (omega arith)))
-    (λ (h : length s ≤ n). rw (min-eq-right h, drop-length s) (sym (drop-of-length-le s h)))
-    (lt-or-le n (length s))
 
 -- the text behind piece k starts with piece k + 1
 start-after : (b : ℕ) (s : List ℕ) (k : ℕ) → drop (startOf b s (suc k)) s ≡ afterOf b (drop (startOf b s k) s)
@@ -68,11 +61,6 @@ rest-start b s (suc k) =
     let e : drop 1 (drop k ps) ≡ drop (suc k) ps = drop-drop 1 k ps ∙ ap (λ (n : ℕ). drop n ps) (add-one k) in
     subst (λ (t : List ℕ). Rest b t (drop (suc k) ps)) (sym (start-after b s k))
     (rw e at (rest-after b (drop (startOf b s k) s) (drop k ps) (rest-start b s k)))
-
--- The text from piece k on holds the pieces from k on.
-pub rest-from : (b : ℕ) (s : List ℕ) (k : ℕ) → Rest b (partOf s (startOf b s k) (length s)) (drop k (pieces b s))
-rest-from b s k =
-    subst (λ (t : List ℕ). Rest b t (drop k (pieces b s))) (sym (part-tail s (startOf b s k))) (rest-start b s k)
 
 -- the first piece of the text from piece k on is piece k
 piece-first : (b : ℕ) (s : List ℕ) (k : ℕ) → take (indexOf b (drop (startOf b s k) s)) (drop (startOf b s k) s) ≡ getD (pieces b s) k []

@@ -1,7 +1,9 @@
 pub mod Parts
 pub mod Splitting
 pub mod Alike
-pub mod Looking
+pub mod Front
+pub mod Standing
+pub mod Rows
 pub mod Reading
 pub mod Decimal
 pub mod Between

@@ -7,7 +7,7 @@ use mathlib.Core.Logic.{⊎-elim}
 use native.Mathlib.Nat.{min-eq-left, min-eq-right, sub-zero}
 use native.Mathlib.Omega.{arith}
 use lib.ListN.{length, take, drop, length-drop, drop-of-length-le}
-use lib.Seq.{take-all, take-nil}
+use lib.Seq.{take-all, take-nil, drop-length}
 use Rattle.laws.proofs.Order.{lt-or-le}
 use Rattle.text.specs.Part.{partOf}
 
@@ -20,6 +20,13 @@ part-tail s i = take-all (length s - i) (drop i s) (rw (length-drop i s) (omega 
 pub part-head : (s : List ℕ) (i : ℕ) → partOf s 0 i ≡ take i s
 unfolding partOf
 part-head s i = rw sub-zero
+
+-- a place past the end may be drawn in to it
+pub drop-within : (s : List ℕ) (n : ℕ) → drop (min n (length s)) s ≡ drop n s
+drop-within s n =
+    ⊎-elim (λ (h : n < length s). rw (min-eq-left {n = n} {m = length s} (omega arith)))
+    (λ (h : length s ≤ n). rw (min-eq-right h, drop-length s) (sym (drop-of-length-le s h)))
+    (lt-or-le n (length s))
 
 -- places past the end, and an end before the start, may be drawn in to the text
 pub part-within : (s : List ℕ) (from to : ℕ) → partOf s (min from (length s)) (max (min from (length s)) (min to (length s))) ≡ partOf s from to

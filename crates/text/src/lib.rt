@@ -1,16 +1,23 @@
-// Texts and nothing of jobs: the pieces of a text between a byte, a number's digits, a word's place in a list of words.
+// Texts and nothing of jobs: parts of a text, the pieces between a byte, a key or a word of a list where it stands, a number's digits.
 ghost use mathlib.Core.Path.{_≡_};
 ghost use Prim.Native.Nat.{_+_, _≤_, min, max};
-ghost use lib.ListN.{length};
+ghost use mathlib.Core.List.{[], _∷_, _++_};
+ghost use lib.ListN.{length, drop};
 ghost use Rattle.text.specs.Part.{Part};
-ghost use Rattle.text.specs.Pieces.{indexOf, hasOf, nextOf, startOf, endOf};
-ghost use Rattle.text.specs.Words.{sameOf, opensOf, placeOf};
+ghost use Rattle.text.specs.Pieces.{indexOf, nextOf, startOf};
+ghost use Rattle.text.specs.Words.{sameOf, opensOf, behindOf, unread, rowsOf, wordFrom};
 ghost use Rattle.text.specs.Numbers.{mostDigits, leadingZero, digitsFrom, numberOf};
 
 // The place of a word in a list of words, counted from 0.
 pub enum Found {
     At(usize),
     Nothing,
+}
+
+// A word read where it stands: its place in its list, and the place behind it and the byte that ends it.
+pub struct WordStep {
+    pub place: Found,
+    pub next: usize,
 }
 
 // The number that a text says.
@@ -60,27 +67,6 @@ pub fn first(s: &[u8], b: u8) -> usize
     i
 }
 
-// s holds a b.
-pub fn has(s: &[u8], b: u8) -> bool
-    ensures { λ r. ⌜ r ≡ hasOf b (now (s .entry)) ⌝ }
-{
-    first(s, b) < s.len()
-}
-
-// What stands in s before the first b: all of s where there is none.
-pub fn before(s: &[u8], b: u8) -> &[u8]
-    ensures { λ r. ⌜ Part (s .entry) 0 (indexOf b (now (s .entry))) r ⌝ }
-{
-    part(s, 0, first(s, b))
-}
-
-// What stands in s after the first b: nothing, at the end, where there is none.
-pub fn after(s: &[u8], b: u8) -> &[u8]
-    ensures { λ r. ⌜ Part (s .entry) (indexOf b (now (s .entry)) + 1) (length (now (s .entry))) r ⌝ }
-{
-    part(s, first(s, b) + 1, s.len())
-}
-
 // The place of the first b at a place of s or behind it, or the end of s where there is none.
 pub fn next(s: &[u8], b: u8, from: usize) -> usize
     ensures { λ r. ⌜ r ≡ nextOf b (now (s .entry)) from ⌝ }
@@ -105,21 +91,6 @@ pub fn start(s: &[u8], b: u8, k: usize) -> usize
     from
 }
 
-// Piece k of s between b, counted from 0: nothing, at the end, where there are fewer.
-pub fn piece(s: &[u8], b: u8, k: usize) -> &[u8]
-    ensures { λ r. ⌜ Part (s .entry) (startOf b (now (s .entry)) k) (endOf b (now (s .entry)) k) r ⌝ }
-{
-    let from = start(s, b, k);
-    part(s, from, next(s, b, from))
-}
-
-// The text from piece k of s between b on, counted from 0: nothing, at the end, where there are fewer.
-pub fn from_piece(s: &[u8], b: u8, k: usize) -> &[u8]
-    ensures { λ r. ⌜ Part (s .entry) (startOf b (now (s .entry)) k) (length (now (s .entry))) r ⌝ }
-{
-    part(s, start(s, b, k), s.len())
-}
-
 // Two texts are the same, byte for byte.
 pub fn same(s: &[u8], t: &[u8]) -> bool
     ensures { λ r. ⌜ r ≡ sameOf (now (s .entry)) (now (t .entry)) ⌝ }
@@ -137,31 +108,74 @@ pub fn same(s: &[u8], t: &[u8]) -> bool
     true
 }
 
-// s opens with the key.
-pub fn opens(s: &[u8], key: &[u8]) -> bool
-    ensures { λ r. ⌜ r ≡ opensOf (now (key .entry)) (now (s .entry)) ⌝ }
+// The key stands in s at a place.
+pub fn stands(s: &[u8], at: usize, key: &[u8]) -> bool
+    ensures { λ r. ⌜ r ≡ opensOf (now (key .entry)) (drop at (now (s .entry))) ⌝ }
 {
-    same(part(s, 0, key.len()), key)
+    let from = least(at, s.len());
+    if s.len() - from < key.len() {
+        return false;
+    }
+    same(&s[from..from + key.len()], key)
 }
 
-// The place of s in a list of words with a space between each two.
-pub fn find_word(words: &[u8], s: &[u8]) -> Found
-    ensures { λ r. ⌜ r ≡ placeOf (now (words .entry)) (now (s .entry)) ⌝ }
+// The place behind the key that stands in s at a place: the end of s where it does not stand there.
+pub fn behind(s: &[u8], at: usize, key: &[u8]) -> usize
+    ensures { λ r. ⌜ r ≡ behindOf (now (key .entry)) (now (s .entry)) at ⌝ }
 {
-    let mut rest = words;
-    let mut k = 0;
-    loop {
-        if same(before(rest, b' '), s) {
-            return Found::At(k);
-        }
-        if has(rest, b' ') {
-            let next = after(rest, b' ');
-            rest = next;
-            k += 1;
-        } else {
-            return Found::Nothing;
-        }
+    if stands(s, at, key) {
+        return at + key.len();
     }
+    s.len()
+}
+
+// A word stands in s at a place, with the byte that ends it behind it.
+fn ends(s: &[u8], at: usize, word: &[u8], end: u8) -> bool
+    ensures { λ r. ⌜ r ≡ opensOf (now (word .entry) ++ (end ∷ [])) (drop at (now (s .entry))) ⌝ }
+{
+    if !stands(s, at, word) {
+        return false;
+    }
+    let behind = at + word.len();
+    if s.len() <= behind {
+        return false;
+    }
+    s[behind] == end
+}
+
+// No word of a list stands there.
+fn unread(s: &[u8]) -> WordStep
+    ensures { λ r. ⌜ r ≡ unread (now (s .entry)) ⌝ }
+{
+    WordStep {
+        place: Found::Nothing,
+        next: s.len(),
+    }
+}
+
+// The word of a list that stands in s at a place, with a byte that ends it. The list has a row of so many bytes for each
+// word, filled up with spaces.
+pub fn word_at(words: &[u8], width: usize, s: &[u8], at: usize, end: u8) -> WordStep
+    ensures { λ r. ⌜ r ≡ wordFrom (rowsOf width (now (words .entry))) end (now (s .entry)) at 0 ⌝ }
+{
+    if width < 1 {
+        return unread(s);
+    }
+    let count = words.len() / width;
+    let mut row = 0;
+    let mut k = 0;
+    while k < count {
+        let size = first(&words[row..row + width], b' ');
+        if ends(s, at, &words[row..row + size], end) {
+            return WordStep {
+                place: Found::At(k),
+                next: at + size + 1,
+            };
+        }
+        row += width;
+        k += 1;
+    }
+    unread(s)
 }
 
 // The number that s says: 1 to 14 digits, with no leading zero except 0 itself.

@@ -1,8 +1,8 @@
 -- `job::read` meets its contract: the length, the head and the areas decide in the definition's order.
 -- Assumes nothing.
-use Rattle.job.proofs.Whole.{reading-long, reading-bad, reading-areas}
 use native.Mathlib.Omega.{arith}
 use borrow.Author.Needs.{needs}
+use Rattle.job.proofs.Whole.{reading-long, reading-bad, reading-areas}
 use Rattle.job.proofs.read.Statement.{statement}
 use Rattle.job.proofs.read.Tie as tie
 
@@ -24,23 +24,14 @@ refused-requires-2 c κs = search needs
 enum-known-found-2 : tie.Need-enum-known-found-2
 enum-known-found-2 c = search needs
 
-from-piece-requires : tie.Need-from-piece-requires
-from-piece-requires c κs = search needs
-
 read-areas-requires : tie.Need-read-areas-requires
 read-areas-requires c κs = search needs
 
 returns-2 : tie.Need-returns-2
-returns-2 c =
-    reading-bad _ (omega arith) (c .before .before .before .before .read-head .ensures) (c .before .before .found .given .1)
-    (c .refused2 .ensures)
+returns-2 c = search (reading-bad, needs)
 
 returns-3 : tie.Need-returns-3
-returns-3 c =
-    reading-areas _ (omega arith) (c .before .before .before .before .before .read-head .ensures)
-    (c .before .before .before .found2 .given .1)
-    (c .before .from-piece .ensures .bytes)
-    (c .read-areas .ensures)
+returns-3 c = search (reading-areas, needs)
 
 pub read-spec : {M : Type 1} → statement M
 read-spec =
@@ -52,7 +43,6 @@ read-spec =
     enum-known-found
     refused-requires-2
     enum-known-found-2
-    from-piece-requires
     read-areas-requires
     returns-2
     returns-3)

@@ -1,33 +1,43 @@
--- `job::areas::read_areas` meets its contract: the lines that are left, added to the site so far, decide the reading of all of them.
+-- `job::areas::read_areas` meets its contract: the lines from a place on, added to the site so far, decide the reading of all of them.
 -- Assumes nothing.
+use Prim.Native.Nat.{_-_}
 use borrow.Author.Needs.{needs}
-use native.Mathlib.Omega.{arith}
 use lib.ListN.{length}
-use Rattle.text.proofs.Splitting.{after-shorter}
-use Rattle.job.proofs.Walking.{Walked, walked-none, walked-refused, walked-next, walked-end}
+use native.Mathlib.Omega.{arith}
+use Rattle.site.proofs.Adding.{granted-place}
+use Rattle.job.proofs.Walking.{Walked, walked-none, walked-bad, walked-refused, walked-shorter, walked-next, walked-end}
 use Rattle.job.proofs.areas.read_areas.Statement.{statement}
 use Rattle.job.proofs.areas.read_areas.Tie as tie
 
 abbrev Inv-loop : tie.InvT-loop
-Inv-loop job text rest₀ line₀ site₀ total₀ rest line site total = Walked job text rest line site total
+Inv-loop job text from at₀ line₀ site₀ total₀ at line site total = Walked job text from at line site total
 
 abbrev μ-loop : tie.MeasureT-loop
-μ-loop job text rest₀ line₀ site₀ total₀ rest line site total = length rest
+μ-loop job text from at₀ line₀ site₀ total₀ at line site total = length text - at
 
 empty-requires : tie.Need-empty-requires Inv-loop μ-loop
 empty-requires c κs = search needs
 
 loop-holds : tie.Need-loop-holds Inv-loop μ-loop
-loop-holds c = walked-none _ _ _ (c .empty .ensures)
-
-has-requires : tie.Need-has-requires Inv-loop μ-loop
-has-requires c κs = search needs
+loop-holds c = search (walked-none, needs)
 
 read-area-requires : tie.Need-read-area-requires Inv-loop μ-loop
 read-area-requires c κs = search needs
 
-add-line-requires : tie.Need-add-line-requires Inv-loop μ-loop
-add-line-requires c κs = search needs
+enum-known-read : tie.Need-enum-known-read Inv-loop μ-loop
+enum-known-read c = search needs
+
+enum-told : tie.Need-enum-told Inv-loop μ-loop
+enum-told c = search needs
+
+refused-requires : tie.Need-refused-requires Inv-loop μ-loop
+refused-requires c κs = search needs
+
+returns : tie.Need-returns Inv-loop μ-loop
+returns c = search (walked-bad, needs)
+
+add-answer-requires : tie.Need-add-answer-requires Inv-loop μ-loop
+add-answer-requires c κs = search needs
 
 enum-known-answer : tie.Need-enum-known-answer Inv-loop μ-loop
 enum-known-answer c = search needs
@@ -35,39 +45,39 @@ enum-known-answer c = search needs
 enum-known-answer-2 : tie.Need-enum-known-answer-2 Inv-loop μ-loop
 enum-known-answer-2 c = search needs
 
-refused-requires : tie.Need-refused-requires Inv-loop μ-loop
-refused-requires c κs = search needs
+refused-requires-2 : tie.Need-refused-requires-2 Inv-loop μ-loop
+refused-requires-2 c κs = search needs
 
-returns : tie.Need-returns Inv-loop μ-loop
-returns c = search (walked-refused, needs)
+returns-2 : tie.Need-returns-2 Inv-loop μ-loop
+returns-2 c = search (walked-refused, needs)
 
-after-requires : tie.Need-after-requires Inv-loop μ-loop
-after-requires c κs = search needs
+mul-part : tie.Need-mul-part Inv-loop μ-loop
+mul-part c =
+    let p = granted-place _ _ _ (c .before .before .before .add-answer .ensures) (c .before .answer .given .1) in
+    omega arith
+
+element-set-from-part : tie.Need-element-set-from-part Inv-loop μ-loop
+element-set-from-part c = search (granted-place, needs)
+
+add-site : tie.Need-add-site Inv-loop μ-loop
+add-site c =
+    let p = granted-place _ _ _ (c .before .before .before .add-answer .ensures) (c .before .answer .given .1) in
+    omega arith
 
 add-line : tie.Need-add-line Inv-loop μ-loop
 add-line c = search needs
 
 loop-less : tie.Need-loop-less Inv-loop μ-loop
-loop-less c = search (after-shorter, needs)
+loop-less c = search (walked-shorter, needs)
 
 loop-again : tie.Need-loop-again Inv-loop μ-loop
-loop-again c =
-    let added = c .before .before .before .before .before in
-    let loop = added .before .before .before .before in
-    walked-next _ _ _ _ _ _
-    (loop .loop .inv)
-    (added .before .before .before .has .ensures)
-    (added .before .before .if1 .taken)
-    (added .before .read-area .ensures)
-    (added .add-line .ensures)
-    (c .before .before .before .answer .given .1)
-    (c .after .ensures .bytes)
+loop-again c = search (walked-next, needs)
 
 ended-requires : tie.Need-ended-requires Inv-loop μ-loop
 ended-requires c κs = search needs
 
-returns-2 : tie.Need-returns-2 Inv-loop μ-loop
-returns-2 c = search (walked-end, needs)
+returns-3 : tie.Need-returns-3 Inv-loop μ-loop
+returns-3 c = search (walked-end, needs)
 
 pub read-areas-spec : {M : Type 1} → statement M
 read-areas-spec =
@@ -77,16 +87,21 @@ read-areas-spec =
     μ-loop
     empty-requires
     loop-holds
-    has-requires
     read-area-requires
-    add-line-requires
-    enum-known-answer
-    enum-known-answer-2
+    enum-known-read
+    enum-told
     refused-requires
     returns
-    after-requires
+    add-answer-requires
+    enum-known-answer
+    enum-known-answer-2
+    refused-requires-2
+    returns-2
+    mul-part
+    element-set-from-part
+    add-site
     add-line
     loop-less
     loop-again
     ended-requires
-    returns-2)
+    returns-3)

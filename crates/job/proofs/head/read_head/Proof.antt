@@ -1,10 +1,11 @@
--- `job::head::read_head` meets its contract: each of the six lines is read at its own place.
+-- `job::head::read_head` meets its contract: each of the six lines is read behind the one before it.
 -- Assumes nothing.
 use mathlib.Core.Path.{refl}
-use Rattle.text.specs.Pieces.{pieces, joined}
-use Rattle.text.proofs.Looking.{place-within}
-use Rattle.job.specs.Words.{nutrientWords, modeWords, taskWords}
-use Rattle.job.proofs.Heads.{head-read}
+use Rattle.text.specs.Part.{partOf}
+use Rattle.text.specs.Pieces.{lineFeed, indexOf, pieces, joined}
+use Rattle.text.specs.Words.{rowsFrom, rowsOf}
+use Rattle.text.proofs.Standing.{word-within}
+use Rattle.job.proofs.Heads.{practice-line, nutrient-line, mode-line, rate-line, task-line, amount-line, head-read}
 use borrow.Author.Needs.{needs}
 use Rattle.job.proofs.head.read_head.Statement.{statement}
 use Rattle.job.proofs.head.read_head.Tie as tie
@@ -58,30 +59,31 @@ number-requires-2 : tie.Need-number-requires-2
 number-requires-2 c κs = search needs
 
 judged-requires : tie.Need-judged-requires
-unfolding pieces joined
+unfolding rowsOf rowsFrom pieces joined partOf indexOf
 judged-requires c κs =
-    let d = c .before .before in
-    let e = d .before .before .before .before .before in
-    let f = e .before .before .before in (
-      place-within nutrientWords _ 2 (f .word2 .ensures) refl,
-      place-within modeWords _ 2 (e .word3 .ensures) refl,
-      place-within taskWords _ 3 (d .word4 .ensures) refl,
+    let t = c .before .before in
+    let m = t .before .before .before .before .before in
+    let n = m .before .before .before in (
+      word-within _ lineFeed _ _ 2 (n .word2 .ensures) refl,
+      word-within _ lineFeed _ _ 2 (m .word3 .ensures) refl,
+      word-within _ lineFeed _ _ 3 (t .word4 .ensures) refl,
     )
 
 returns : tie.Need-returns
+unfolding rowsOf rowsFrom pieces joined partOf indexOf
 returns c =
-    let task = c .before .before .before in
-    let rate = task .before .before .before in
-    let mode = rate .before .before in
-    let nutrient = mode .before .before .before in
-    let practice = nutrient .before .before .before in
+    let t = c .before .before .before in
+    let r = t .before .before .before in
+    let m = r .before .before in
+    let n = m .before .before .before in
+    let p = n .before .before .before in
     head-read _
-    (practice .word .ensures)
-    (nutrient .word2 .ensures)
-    (mode .word3 .ensures)
-    (rate .number .ensures)
-    (task .word4 .ensures)
-    (c .before .number2 .ensures)
+    (practice-line _ _ (p .word .ensures))
+    (nutrient-line _ _ (n .word2 .ensures))
+    (mode-line _ _ (m .word3 .ensures))
+    (rate-line _ _ (r .number .ensures))
+    (task-line _ _ (t .word4 .ensures))
+    (amount-line _ _ (c .before .number2 .ensures))
     (c .judged .ensures)
 
 pub read-head-spec : {M : Type 1} → statement M
