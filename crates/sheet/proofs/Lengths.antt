@@ -1,10 +1,11 @@
 -- Laws of the test of a sheet's lengths.
 -- Assumes nothing.
 use Prim.Native.Nat.{ℕ, _*_, _≤_, _<_}
-use mathlib.Core.Bool.{false}
-use mathlib.Core.Path.{_≡_}
-use lib.Dec.{eqb}
-use borrow.Author.Tests.{le-leb, lt-leb}
+use mathlib.Core.Bool.{Bool, true, false, not, _&&_}
+use mathlib.Core.Path.{_≡_, sym, _∙_}
+use lib.Dec.{leb, eqb}
+use borrow.Author.Tests.{le-leb, lt-leb, leb-true, eqb-true, not-false}
+use Rattle.laws.proofs.And.{and-left, and-right}
 use Rattle.sheet.specs.Sheet.{lengthsFit, mostDepths, mostRates}
 
 module _ (d r p : ℕ) where
@@ -30,3 +31,21 @@ module _ (d r p : ℕ) where
         pub by-product : r ≤ mostRates → eqb p (r * d) ≡ lengthsFit d r p
         unfolding lengthsFit
         by-product h = simp (le-leb 1 d d₁, le-leb d mostDepths d₂, le-leb 1 r r₁, le-leb r mostRates h)
+
+-- The lengths' test, as facts.
+pub lengths-kept : (d r p : ℕ) → lengthsFit d r p ≡ true → (1 ≤ d) × (d ≤ mostDepths) × (1 ≤ r) × (r ≤ mostRates) × (p ≡ r * d)
+unfolding lengthsFit
+lengths-kept d r p e =
+    let f₃ = and-left (leb 1 d && leb d mostDepths && leb 1 r && leb r mostRates) (eqb p (r * d)) e in
+    let f₂ = and-left (leb 1 d && leb d mostDepths && leb 1 r) (leb r mostRates) f₃ in
+    let f₁ = and-left (leb 1 d && leb d mostDepths) (leb 1 r) f₂ in (
+      leb-true 1 d (and-left (leb 1 d) (leb d mostDepths) f₁),
+      leb-true d mostDepths (and-right (leb 1 d) (leb d mostDepths) f₁),
+      leb-true 1 r (and-right (leb 1 d && leb d mostDepths) (leb 1 r) f₂),
+      leb-true r mostRates (and-right (leb 1 d && leb d mostDepths && leb 1 r) (leb r mostRates) f₃),
+      eqb-true p (r * d) (and-right (leb 1 d && leb d mostDepths && leb 1 r && leb r mostRates) (eqb p (r * d)) e),
+    )
+
+-- Where the lengths fit the percents fill the rows.
+pub rows-fit : (d r p : ℕ) {b : Bool} → b ≡ lengthsFit d r p → not b ≡ false → p ≡ r * d
+rows-fit d r p e f = lengths-kept d r p (sym e ∙ not-false _ f) .4

@@ -1,15 +1,15 @@
 -- A sheet is judged fine exactly when it keeps the rules.
 -- Assumes nothing.
 use Prim.Native.Nat.{ℕ, _+_, _*_, _≤_, _<_}
-use mathlib.Core.Bool.{Bool, true, false, cond, _&&_}
+use mathlib.Core.Bool.{Bool, true, false, cond}
 use mathlib.Core.List.{List}
 use mathlib.Core.Logic.{_⊎_, inl, inr, ⊎-elim}
 use mathlib.Core.Path.{_≡_, refl}
 use native.Mathlib.Nat.{le-antisymm, le-of-eq, le-refl}
 use native.Mathlib.Omega.{arith}
-use lib.Dec.{leb, ltb, eqb}
+use lib.Dec.{leb, ltb}
 use lib.ListN.{length, getD}
-use borrow.Author.Tests.{leb-true, le-leb, ltb-false, le-ltb, eqb-true, eq-eqb}
+use borrow.Author.Tests.{leb-true, le-leb, ltb-false, le-ltb, eq-eqb}
 use Rattle.laws.proofs.And.{and-left, and-right}
 use Rattle.laws.proofs.First.{first-le, first-all, first-is}
 use Rattle.laws.proofs.Order.{passes-or-fails, never-both}
@@ -18,6 +18,7 @@ use Rattle.sheet.specs.declared.Verdict.{Verdict}
 use Rattle.sheet.specs.declared.Verdict.the-variants.{Fine, Unfit}
 use Rattle.sheet.specs.Sheet.{mostDepths, mostRates, previous, inStep, offending, offendingDepth, offendingRate, offendingPercent, lengthsFit, withoutRates, judged, verdictOf}
 use Rattle.sheet.specs.Rules.{InStep, Rules}
+use Rattle.sheet.proofs.Lengths.{lengths-kept}
 
 -- No unfit verdict is a fine one.
 unfit-fine : {list place : ℕ} → Unfit list place ≡ Fine → ⊥
@@ -85,20 +86,6 @@ module _ (rs : List ℕ) where
       ⊎-elim (λ (f : withoutRates rs ≡ true). absurd (never-both f e))
       (λ (s : InStep rs (length rs) 1 mostRate). simp e (in-step-none rs (length rs) 1 mostRate s)) s)
       (passes-or-fails (withoutRates rs))
-
--- The lengths' test, as facts.
-lengths-kept : (d r p : ℕ) → lengthsFit d r p ≡ true → (1 ≤ d) × (d ≤ mostDepths) × (1 ≤ r) × (r ≤ mostRates) × (p ≡ r * d)
-unfolding lengthsFit
-lengths-kept d r p e =
-    let f₃ = and-left (leb 1 d && leb d mostDepths && leb 1 r && leb r mostRates) (eqb p (r * d)) e in
-    let f₂ = and-left (leb 1 d && leb d mostDepths && leb 1 r) (leb r mostRates) f₃ in
-    let f₁ = and-left (leb 1 d && leb d mostDepths) (leb 1 r) f₂ in (
-      leb-true 1 d (and-left (leb 1 d) (leb d mostDepths) f₁),
-      leb-true d mostDepths (and-right (leb 1 d) (leb d mostDepths) f₁),
-      leb-true 1 r (and-right (leb 1 d && leb d mostDepths) (leb 1 r) f₂),
-      leb-true r mostRates (and-right (leb 1 d && leb d mostDepths && leb 1 r) (leb r mostRates) f₃),
-      eqb-true p (r * d) (and-right (leb 1 d && leb d mostDepths && leb 1 r && leb r mostRates) (eqb p (r * d)) e),
-    )
 
 module _ (ds rs ps : List ℕ) where
   -- A sheet that is judged fine keeps the rules.

@@ -1,9 +1,9 @@
 // 01, "Curve sheets": the test of a sheet, lent as its depths, its rates, and its percents rate by rate.
-ghost use Prim.Native.Nat.{_%_};
-ghost use mathlib.Core.Bool.{cond};
+ghost use Prim.Native.Nat.{_*_, _%_};
 ghost use mathlib.Core.Path.{_≡_};
 ghost use lib.Dec.{eqb};
-ghost use Rattle.sheet.specs.Sheet.{previous, inStep, offending, lengthsFit, offendingRate, withoutRates, verdictOf};
+ghost use lib.ListN.{length};
+ghost use Rattle.sheet.specs.Sheet.{previous, inStep, offending, lengthsFit, offendingRate, offendingPercent, withoutRates, verdictOf};
 use units::Depth;
 
 pub const MOST_DEPTHS: usize = 16;
@@ -52,32 +52,10 @@ fn in_step(gap: u64, most: u64, low: u64, x: u64) -> bool
     gap <= x - low
 }
 
-// The place in its row of n, where `place` counts up to n: n is the start of the next row.
-fn in_row(n: usize, place: usize) -> usize
-    ensures { λ r. ⌜ r ≡ cond (eqb place n) 0 place ⌝ }
+// The first place of a row whose number is not in step, or its length. The walk carries the number before.
+fn offending(xs: &[u64], gap: u64, most: u64) -> usize
+    ensures { λ r. ⌜ r ≡ offending (now (xs .entry)) (length (now (xs .entry))) gap most ⌝ }
 {
-    if place == n {
-        return 0;
-    }
-    place
-}
-
-// What stands before a place of a row: 0 at its start, else the number x that came before.
-fn low_at(place: usize, x: u64) -> u64
-    ensures { λ r. ⌜ r ≡ cond (eqb place 0) 0 x ⌝ }
-{
-    if place == 0 {
-        return 0;
-    }
-    x
-}
-
-// The first place in rows of n whose number is not in step, or the length. The walk carries the place in the row and the
-// number before.
-fn offending(xs: &[u64], n: usize, gap: u64, most: u64) -> usize
-    ensures { λ r. ⌜ r ≡ offending (now (xs .entry)) n gap most ⌝ }
-{
-    let mut place = 0;
     let mut low: u64 = 0;
     let mut i = 0;
     while i < xs.len() {
@@ -85,11 +63,28 @@ fn offending(xs: &[u64], n: usize, gap: u64, most: u64) -> usize
         if !in_step(gap, most, low, x) {
             return i;
         }
-        place = in_row(n, place + 1);
-        low = low_at(place, x);
+        low = x;
         i += 1;
     }
     i
+}
+
+// The first percent out of step, row by row: there are as many rows of n as there are rates.
+fn offending_percent(percents: &[u64], n: usize, rates: usize) -> usize
+    requires { ⌜ length (now percents) ≡ rates * n ⌝ }
+    ensures { λ r. ⌜ r ≡ offendingPercent n (now (percents .entry)) ⌝ }
+{
+    let mut j = 0;
+    while j < rates {
+        let start = j * n;
+        let end = start + n;
+        let place = offending(&percents[start..end], 0, units::MOST_PERCENT);
+        if place < n {
+            return start + place;
+        }
+        j += 1;
+    }
+    percents.len()
 }
 
 // 1 to 16 depths, 1 to 8 rates, and one percent for each rate at each depth.
@@ -118,7 +113,7 @@ fn offending_rate(rates: &[u64]) -> usize
     if without_rates(rates) {
         return rates.len();
     }
-    offending(rates, rates.len(), 1, units::MOST_RATE)
+    offending(rates, 1, units::MOST_RATE)
 }
 
 // Whether there is the single rate 0, which a practice without rates has.
@@ -139,7 +134,7 @@ pub fn judge(depths: &[u64], rates: &[u64], percents: &[u64]) -> Verdict
     if !lengths_fit(n, rates.len(), percents.len()) {
         return Verdict::Unfit { list: 0, place: 0 };
     }
-    let depth = offending(depths, n, 1, Depth::HIGHEST);
+    let depth = offending(depths, 1, Depth::HIGHEST);
     if depth < n {
         return Verdict::Unfit {
             list: 1,
@@ -153,7 +148,7 @@ pub fn judge(depths: &[u64], rates: &[u64], percents: &[u64]) -> Verdict
             place: rate,
         };
     }
-    let percent = offending(percents, n, 0, units::MOST_PERCENT);
+    let percent = offending_percent(percents, n, rates.len());
     if percent < percents.len() {
         return Verdict::Unfit {
             list: 3,

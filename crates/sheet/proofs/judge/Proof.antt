@@ -1,6 +1,7 @@
 -- `sheet::judge` meets its contract: the tests are the definition's, in its order.
 -- Assumes nothing.
 use borrow.Author.Needs.{needs}
+use Rattle.sheet.proofs.Lengths.{rows-fit}
 use Rattle.sheet.proofs.Verdicts.{unfit-lengths, unfit-depths, unfit-rates, unfit-percents, all-fine}
 use Rattle.sheet.proofs.judge.Statement.{statement}
 use Rattle.sheet.proofs.judge.Tie as tie
@@ -25,18 +26,19 @@ returns-3 c =
     unfit-rates _ _ _ (c .before .before .before .before .before .lengths-fit .ensures) (c .before .before .before .before .if1 .left) (c .before .before .before .offending .ensures) (c .before .before .if2 .left)
     (c .before .offending-rate .ensures) (c .if3 .taken)
 
-offending-requires-2 : tie.Need-offending-requires-2
-offending-requires-2 c κs = search needs
+offending-percent-requires : tie.Need-offending-percent-requires
+offending-percent-requires c κs =
+    rows-fit _ _ _ (c .before .before .before .before .before .lengths-fit .ensures) (c .before .before .before .before .if1 .left)
 
 returns-4 : tie.Need-returns-4
 returns-4 c =
     unfit-percents _ _ _ (c .before .before .before .before .before .before .before .lengths-fit .ensures) (c .before .before .before .before .before .before .if1 .left) (c .before .before .before .before .before .offending .ensures) (c .before .before .before .before .if2 .left)
-    (c .before .before .before .offending-rate .ensures) (c .before .before .if3 .left) (c .before .offending2 .ensures) (c .if4 .taken)
+    (c .before .before .before .offending-rate .ensures) (c .before .before .if3 .left) (c .before .offending-percent .ensures) (c .if4 .taken)
 
 returns-5 : tie.Need-returns-5
 returns-5 c =
     all-fine _ _ _ (c .before .before .before .before .before .before .before .lengths-fit .ensures) (c .before .before .before .before .before .before .if1 .left) (c .before .before .before .before .before .offending .ensures) (c .before .before .before .before .if2 .left)
-    (c .before .before .before .offending-rate .ensures) (c .before .before .if3 .left) (c .before .offending2 .ensures) (c .if4 .left)
+    (c .before .before .before .offending-rate .ensures) (c .before .before .if3 .left) (c .before .offending-percent .ensures) (c .if4 .left)
 
 pub judge-spec : {M : Type 1} → statement M
 judge-spec =
@@ -48,6 +50,6 @@ judge-spec =
     returns-2
     offending-rate-requires
     returns-3
-    offending-requires-2
+    offending-percent-requires
     returns-4
     returns-5)

@@ -1,20 +1,20 @@
--- `sheet::offending` meets its contract: it walks as far as every number is in step, and carries what stands before.
+-- `sheet::offending` meets its contract: it walks as far as every number is in step, and carries the number before.
 -- Assumes nothing.
 use Prim.Native.Nat.{_-_}
 use borrow.Author.Needs.{needs}
 use lib.ListN.{length}
-use Rattle.sheet.proofs.Carrying.{Carried, carry-start, place-within, carry-found, carry-on, carry-end}
+use Rattle.sheet.proofs.Carrying.{Carried, carry-start, carry-found, carry-on, carry-end}
 use Rattle.sheet.proofs.offending.Statement.{statement}
 use Rattle.sheet.proofs.offending.Tie as tie
 
 abbrev Inv-loop : tie.InvT-loop
-Inv-loop xs n gap most place₀ low₀ i₀ place low i = Carried xs n gap most place low i
+Inv-loop xs gap most low₀ i₀ low i = Carried xs gap most low i
 
 abbrev μ-loop : tie.MeasureT-loop
-μ-loop xs n gap most place₀ low₀ i₀ place low i = length xs - i
+μ-loop xs gap most low₀ i₀ low i = length xs - i
 
 loop-holds : tie.Need-loop-holds Inv-loop μ-loop
-loop-holds c = carry-start _ _ _ _
+loop-holds c = carry-start _ _ _
 
 mul-x : tie.Need-mul-x Inv-loop μ-loop
 mul-x c = search needs
@@ -27,17 +27,6 @@ in-step-requires c κs = search needs
 
 returns : tie.Need-returns Inv-loop μ-loop
 returns c = search (carry-found, needs)
-
-add-in-row : tie.Need-add-in-row Inv-loop μ-loop
-add-in-row c =
-    let h = place-within _ _ _ _ _ _ _ (c .before .before .before .before .loop .inv) in
-    search needs
-
-in-row-requires : tie.Need-in-row-requires Inv-loop μ-loop
-in-row-requires c κs = search needs
-
-low-at-requires : tie.Need-low-at-requires Inv-loop μ-loop
-low-at-requires c κs = search needs
 
 add-i : tie.Need-add-i Inv-loop μ-loop
 add-i c = search needs
@@ -62,9 +51,6 @@ offending-spec =
     shared-slice-read-x
     in-step-requires
     returns
-    add-in-row
-    in-row-requires
-    low-at-requires
     add-i
     loop-less
     loop-again
