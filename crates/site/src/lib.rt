@@ -245,9 +245,8 @@ pub fn add_answer(count: usize, total: Area, part: SubArea) -> AreaAnswer
     AreaAnswer::Granted(Area(total.0 + area.0))
 }
 
-// The add for whoever carries the total area of a site that is judged fine: nothing is judged anew. A granted answer
-// has the new total.
-pub fn add_to(site: Site, total: Area, part: SubArea) -> Added
+// The add to a site that is judged fine with the total area that is given. A granted answer has the new total.
+fn add_to(site: Site, total: Area, part: SubArea) -> Added
     ensures { λ r. ⌜ r ≡ addedTo site (total .0) part ⌝ }
 {
     let count = site.count;
