@@ -12,6 +12,7 @@ use Rattle.laws.specs.Text.{bytes}
 use Rattle.refusal.specs.declared.Refusal.{Refusal}
 use Rattle.refusal.specs.declared.Refusal.the-variants as refused
 use Rattle.refusal.specs.Refusal.{numberOf, granted}
+use Rattle.refusal.proofs.Numbers.{number-range, refusal-not-granted}
 use Rattle.credit.specs.declared.Figures.{Figures}
 use Rattle.text.specs.Numbers.{decimalOf}
 use Rattle.answer.specs.declared.Outcome.the-variants.{Granted, Refused, BadSheet}
@@ -22,26 +23,8 @@ use Rattle.answer.specs.Promises.{Wide}
 use Rattle.answer.proofs.Digits.{one-digit, few-digits, word-digits}
 use Rattle.answer.proofs.Putting.{Lined, lined-none, lined-all}
 
--- the number of a refusal is none of a granted answer, and has at most two digits
-number-range : (why : Refusal) → (granted < numberOf why) × (numberOf why < 10 ^ 2)
-number-range refused.MalformedText = (lit< tt, lit< tt)
-number-range refused.UnfitSubArea = (lit< tt, lit< tt)
-number-range refused.TotalAreaPassed = (lit< tt, lit< tt)
-number-range refused.NoPublishedSheet = (lit< tt, lit< tt)
-number-range refused.UnfitSheet = (lit< tt, lit< tt)
-number-range refused.RateOutOfRange = (lit< tt, lit< tt)
-number-range refused.RateBelowSheet = (lit< tt, lit< tt)
-number-range refused.NoImperviousArea = (lit< tt, lit< tt)
-number-range refused.AmountOutOfRange = (lit< tt, lit< tt)
-number-range refused.TargetUnreachable = (lit< tt, lit< tt)
-number-range refused.ReadingNotARate = (lit< tt, lit< tt)
-number-range refused.ReadingTooFast = (lit< tt, lit< tt)
-number-range refused.BufferTooShort = (lit< tt, lit< tt)
-number-range refused.SiteFull = (lit< tt, lit< tt)
-number-range refused.PastLargest = (lit< tt, lit< tt)
-
 never-granted : (why : Refusal) → eqb (numberOf why) granted ≡ false
-never-granted why = ne-eqb (numberOf why) granted (λ (e : numberOf why ≡ granted). let r = number-range why .0 in omega arith)
+never-granted why = ne-eqb (numberOf why) granted (refusal-not-granted why)
 
 -- the text of a granted outcome, line by line, and its length
 module _ (f : Figures) where

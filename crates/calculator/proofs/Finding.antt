@@ -2,7 +2,7 @@
 -- Assumes nothing.
 use Prim.Native.Nat.{ℕ}
 use mathlib.Core.List.{List}
-use mathlib.Core.Path.{_≡_, refl, sym, _∙_, ap}
+use mathlib.Core.Path.{_≡_, _∙_, ap}
 use borrow.Author.Tests.{eq-eqb, ne-eqb}
 use Rattle.refusal.specs.declared.Refusal.{Refusal}
 use Rattle.refusal.specs.declared.Refusal.the-variants.{AmountOutOfRange}
@@ -14,12 +14,9 @@ use Rattle.loads.specs.Loads.{loadAnswer}
 use Rattle.credit.specs.declared.Figures.{Figures}
 use Rattle.credit.specs.declared.CreditAnswer.{CreditAnswer}
 use Rattle.credit.specs.declared.CreditAnswer.the-variants as credit
-use Rattle.credit.specs.declared.Wanted.{Wanted}
-use Rattle.credit.specs.Answers.{Sheet, lent, published, answerOf, credit as creditOf, size as sizeOf}
+use Rattle.credit.specs.Answers.{Sheet, answerOf, credit as creditOf, size as sizeOf}
 use Rattle.job.specs.declared.Job.{Job}
-use Rattle.job.specs.declared.Task.{Task}
 use Rattle.job.specs.declared.Task.the-variants as task
-use Rattle.job.specs.declared.JobAnswer.{JobAnswer}
 use Rattle.job.specs.declared.JobAnswer.the-variants as job
 use Rattle.job.specs.declared.Reading.{Reading}
 use Rattle.job.specs.Reading.{readingOf}
@@ -28,7 +25,7 @@ use Rattle.answer.specs.declared.Outcome.the-variants.{Granted, Refused, BadShe
 use Rattle.answer.specs.declared.Written.{Written}
 use Rattle.answer.specs.Lines.{answerText}
 use Rattle.answer.specs.Writing.{writtenOf, bufferOf}
-use Rattle.calculator.specs.Outcome.{outsideLines, ofLoad, ofCredit, ofLoadJob, ofTask, byTables, byLent, ofReading, outcomeOf}
+use Rattle.calculator.specs.Outcome.{ofLoad, ofCredit, ofLoadJob, ofTask, outcomeOf}
 
 module _ {found : LoadAnswer} where
   pub load-granted : (l : Load) → found ≡ load.Granted l → ofLoad (load.Granted l) ≡ ofLoad found

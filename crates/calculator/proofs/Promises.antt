@@ -1,29 +1,25 @@
 -- Demand 1, proved of the definitions that the contracts cite.
 -- Assumes nothing.
-use Prim.Native.Nat.{ℕ, _+_, _≤_, _<_}
-use mathlib.Core.Bool.{Bool, true, false, cond}
-use mathlib.Core.List.{List, _++_}
+use Prim.Native.Nat.{ℕ}
+use mathlib.Core.Bool.{Bool, true, false}
+use mathlib.Core.List.{List}
 use mathlib.Core.Logic.{_⊎_, inl, inr}
-use mathlib.Core.Path.{_≡_, refl, sym, _∙_, ap}
+use mathlib.Core.Path.{_≡_, refl}
 use native.Mathlib.Nat.{zero-add}
 use lib.Dec.{ltb}
-use lib.ListN.{length, take, drop}
+use lib.ListN.{length}
 use borrow.Author.Tests.{le-ltb}
-use Rattle.refusal.specs.declared.Refusal.{Refusal}
 use Rattle.refusal.specs.declared.Refusal.the-variants.{UnfitSheet}
-use Rattle.refusal.specs.Refusal.{numberOf, granted}
-use Rattle.credit.specs.Answers.{Sheet}
-use Rattle.credit.proofs.Passing.{refusal-not-granted}
-use Rattle.job.specs.declared.Job.{Job}
+use Rattle.refusal.specs.Refusal.{granted}
+use Rattle.refusal.proofs.Numbers.{refusal-not-granted}
 use Rattle.job.specs.declared.JobAnswer.the-variants as job
-use Rattle.job.specs.Reading.{readingOf}
 use Rattle.answer.specs.declared.Outcome.{Outcome}
 use Rattle.answer.specs.declared.Outcome.the-variants.{Granted, Refused, BadSheet}
 use Rattle.answer.specs.Outcomes.{given}
 use Rattle.answer.specs.Lines.{answerText}
 use Rattle.answer.specs.Writing.{pasted, writtenOf, bufferOf, writtenGiven}
 use Rattle.calculator.specs.Outcome.{outcomeOf}
-use Rattle.calculator.specs.Promises.{Answered, Zeros, Faultless, EveryTextAnswered, UnreadIsRefused, BufferKept}
+use Rattle.calculator.specs.Promises.{Zeros, Faultless, EveryTextAnswered, UnreadIsRefused, BufferKept}
 
 answered : (o : Outcome) → ((given o .answer ≡ granted) × Faultless (given o)) ⊎ ((given o .answer ≡ granted → ⊥) × Zeros (given o))
 answered (Granted f) = inl (refl, record { line = refl; list = refl; place = refl })

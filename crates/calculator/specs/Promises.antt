@@ -12,7 +12,6 @@ use Rattle.credit.specs.Answers.{Sheet}
 use Rattle.job.specs.declared.Job.{Job}
 use Rattle.job.specs.declared.JobAnswer.the-variants as job
 use Rattle.job.specs.Reading.{readingOf}
-use Rattle.answer.specs.declared.Outcome.{Outcome}
 use Rattle.answer.specs.Outcomes.{Given, given}
 use Rattle.answer.specs.Lines.{answerText}
 use Rattle.answer.specs.Writing.{writtenOf, bufferOf, writtenGiven}

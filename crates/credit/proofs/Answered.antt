@@ -1,13 +1,12 @@
 -- Laws of crediting and sizing on a sheet: what the percent at a depth, or the least depth of a target, tells of 5, 6 and 7.
 -- Assumes nothing.
-use Prim.Native.Nat.{ℕ, suc, _≤_, _<_}
+use Prim.Native.Nat.{ℕ, _≤_}
 use mathlib.Core.Bool.{Bool, true, false, cond}
 use mathlib.Core.List.{List, [], _∷_}
 use mathlib.Core.Path.{_≡_, refl, sym, _∙_, ap, subst}
 use native.Mathlib.Omega.{arith}
 use lib.Dec.{leb, ltb}
 use borrow.Author.Tests.{le-leb, leb-true, le-ltb}
-use Rattle.laws.specs.First.{first}
 use Rattle.laws.specs.Turn.{inTurn}
 use Rattle.laws.proofs.First.{first-le, fails-so-below}
 use Rattle.refusal.specs.declared.Refusal.{Refusal}
@@ -25,7 +24,6 @@ use Rattle.curve.specs.declared.Mode.{Mode}
 use Rattle.curve.specs.declared.Curves.{Curves}
 use Rattle.curve.specs.declared.Admission.{Admission}
 use Rattle.curve.specs.declared.Admission.the-variants as admission
-use Rattle.curve.specs.declared.ExactAnswer.{ExactAnswer}
 use Rattle.curve.specs.declared.PercentAnswer.{PercentAnswer}
 use Rattle.curve.specs.declared.PercentAnswer.the-variants as percent
 use Rattle.curve.specs.declared.Reached.{Reached}
@@ -37,7 +35,7 @@ use Rattle.curve.proofs.Rising.{percent-most}
 use Rattle.credit.specs.declared.Wanted.the-variants.{Credit, Size}
 use Rattle.credit.specs.declared.CreditAnswer.{CreditAnswer}
 use Rattle.credit.specs.declared.CreditAnswer.the-variants.{Granted, BadSheet, Refused}
-use Rattle.credit.specs.Credit.{figuresOf, depthWithin, creditBy, depthReaching, sizedAt, sizeBy}
+use Rattle.credit.specs.Credit.{figuresOf, depthWithin, creditBy, sizedAt}
 use Rattle.credit.specs.Answers.{onCurves, worked, onSheet}
 use Rattle.credit.specs.Working.{Work, depthIn}
 

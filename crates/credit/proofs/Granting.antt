@@ -1,10 +1,9 @@
 -- What is granted: exactly what is accepted, for an amount within its limits.
 -- Assumes nothing.
-use Prim.Native.Nat.{ℕ, _≤_}
-use mathlib.Core.Bool.{Bool, true}
+use Prim.Native.Nat.{ℕ}
+use mathlib.Core.Bool.{true}
 use mathlib.Core.List.{List, [], _∷_}
-use mathlib.Core.Path.{_≡_, refl, sym, ap}
-use Rattle.refusal.specs.declared.Refusal.{Refusal}
+use mathlib.Core.Path.{_≡_, refl, ap}
 use Rattle.refusal.specs.declared.Refusal.the-variants.{NoPublishedSheet}
 use Rattle.refusal.specs.Refusal.{granted}
 use Rattle.units.specs.declared.Nutrient.{Nutrient}
@@ -23,7 +22,8 @@ use Rattle.credit.specs.declared.CreditAnswer.the-variants.{Refused}
 use Rattle.credit.specs.declared.Wanted.{Wanted}
 use Rattle.credit.specs.Answers.{Sheet, lent, published, credit, size, onSheet, onParts, bySheet, answerOf, given}
 use Rattle.credit.specs.Promises.{depthsIn, ratesIn, percentsIn, percentOn, isThere, Accepted, CreditGrantedExactly, SizeGrantedExactly}
-use Rattle.credit.proofs.Passing.{refusal-not-granted, granted-pass}
+use Rattle.refusal.proofs.Numbers.{refusal-not-granted}
+use Rattle.credit.proofs.Passing.{granted-pass}
 use Rattle.credit.proofs.Opening.{sheet-admitted, onPercents, Open, granted-opens, credit-within, credit-is, size-within, size-is}
 
 -- A granted answer has a sheet,

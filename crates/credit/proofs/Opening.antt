@@ -43,7 +43,8 @@ use Rattle.credit.specs.declared.Wanted.the-variants.{Credit, Size}
 use Rattle.credit.specs.Credit.{figuresOf, depthReaching}
 use Rattle.credit.specs.Answers.{Sheet, lent, published, credit, size, onCurves, worked, onSheet, onParts, bySheet, answerOf, given}
 use Rattle.credit.specs.Promises.{depthsIn, ratesIn, percentsIn, percentOn, Credited, Sized}
-use Rattle.credit.proofs.Passing.{refusal-not-granted, granted-pass, Within, credit-passed, credit-works, size-passed, size-works, size-short}
+use Rattle.refusal.proofs.Numbers.{refusal-not-granted}
+use Rattle.credit.proofs.Passing.{granted-pass, Within, credit-passed, credit-works, size-passed, size-works, size-short}
 
 -- A rate's tests, 6 and 7, are tests of the answer.
 curves-turn : (onward : Curves → CreditAnswer) (a : Admission) (tests : List (Bool × Refusal))

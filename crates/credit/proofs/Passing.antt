@@ -4,36 +4,18 @@ use Prim.Native.Nat.{ℕ, _≤_, _<_}
 use mathlib.Core.Bool.{Bool, true, false}
 use mathlib.Core.List.{List, [], _∷_}
 use mathlib.Core.Path.{_≡_, refl, _∙_}
-use native.Mathlib.Omega.{arith}
 use lib.Dec.{leb, ltb}
 use borrow.Author.Tests.{leb-true, le-leb, lt-leb, ltb-true, lt-ltb}
 use Rattle.laws.specs.Turn.{inTurn}
+use Rattle.refusal.proofs.Numbers.{refusal-not-granted}
 use Rattle.refusal.specs.declared.Refusal.{Refusal}
 use Rattle.refusal.specs.declared.Refusal.the-variants as refused
-use Rattle.refusal.specs.Refusal.{numberOf, granted}
+use Rattle.refusal.specs.Refusal.{granted}
 use Rattle.units.specs.Limits.{largest, mostPercent, highestDepth}
 use Rattle.credit.specs.declared.CreditAnswer.{CreditAnswer}
 use Rattle.credit.specs.declared.CreditAnswer.the-variants.{Granted, Refused}
 use Rattle.credit.specs.Credit.{figuresOf, depthWithin, depthReaching, creditBy, sizedAt, sizeBy}
 use Rattle.credit.specs.Answers.{given}
-
--- No refusal has the number of a granted answer.
-pub refusal-not-granted : (why : Refusal) → numberOf why ≡ granted → ⊥
-refusal-not-granted refused.MalformedText e = omega arith
-refusal-not-granted refused.UnfitSubArea e = omega arith
-refusal-not-granted refused.TotalAreaPassed e = omega arith
-refusal-not-granted refused.NoPublishedSheet e = omega arith
-refusal-not-granted refused.UnfitSheet e = omega arith
-refusal-not-granted refused.RateOutOfRange e = omega arith
-refusal-not-granted refused.RateBelowSheet e = omega arith
-refusal-not-granted refused.NoImperviousArea e = omega arith
-refusal-not-granted refused.AmountOutOfRange e = omega arith
-refusal-not-granted refused.TargetUnreachable e = omega arith
-refusal-not-granted refused.ReadingNotARate e = omega arith
-refusal-not-granted refused.ReadingTooFast e = omega arith
-refusal-not-granted refused.BufferTooShort e = omega arith
-refusal-not-granted refused.SiteFull e = omega arith
-refusal-not-granted refused.PastLargest e = omega arith
 
 -- each of the tests passes
 abbrev pub Pass : List (Bool × Refusal) → Type 0

@@ -1,11 +1,11 @@
 -- Laws of crediting and sizing on six areas: the answers of the calls below, put together, are the definitions' answers.
 -- Assumes nothing.
 use Prim.Native.Nat.{ℕ, _≤_, _<_}
-use mathlib.Core.Bool.{Bool, true, false, cond}
+use mathlib.Core.Bool.{Bool, true, false}
 use mathlib.Core.List.{List, [], _∷_}
 use mathlib.Core.Path.{_≡_, refl, sym, _∙_, ap}
 use native.Mathlib.Omega.{arith}
-use lib.Dec.{leb, ltb}
+use lib.Dec.{leb}
 use borrow.Author.Tests.{le-leb, lt-leb, lt-ltb, le-ltb}
 use Rattle.laws.specs.Turn.{inTurn}
 use Rattle.refusal.specs.declared.Refusal.{Refusal}
@@ -24,7 +24,7 @@ use Rattle.loads.specs.Loads as loads
 use Rattle.loads.proofs.Answers.{removed-granted}
 use Rattle.volume.specs.declared.VolumeAnswer.{VolumeAnswer}
 use Rattle.volume.specs.declared.VolumeAnswer.the-variants as volume
-use Rattle.volume.specs.Areas.{areaAt, totalOf, withinLimit, volumeFrom, Six}
+use Rattle.volume.specs.Areas.{areaAt, totalOf, withinLimit, volumeFrom}
 use Rattle.volume.specs.Answers.{depthOn, volumeOn}
 use Rattle.credit.specs.declared.Figures.{Figures}
 use Rattle.credit.specs.declared.CreditAnswer.{CreditAnswer}

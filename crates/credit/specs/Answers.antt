@@ -3,7 +3,6 @@
 use Prim.Native.Nat.{ℕ}
 use mathlib.Core.List.{List, [], _∷_}
 use Rattle.laws.specs.Turn.{inTurn}
-use Rattle.refusal.specs.declared.Refusal.{Refusal}
 use Rattle.refusal.specs.declared.Refusal.the-variants.{NoPublishedSheet, UnfitSheet}
 use Rattle.refusal.specs.Refusal.{numberOf, granted}
 use Rattle.units.specs.declared.Nutrient.{Nutrient}
@@ -22,7 +21,6 @@ use Rattle.curve.specs.Curve.{percentAt}
 use Rattle.curve.specs.Answers.{admissionOf}
 use Rattle.published.specs.Tables.{depths}
 use Rattle.published.specs.Published.{ratesOf, percentsOf, isPublished}
-use Rattle.credit.specs.declared.Figures.{Figures}
 use Rattle.credit.specs.declared.CreditAnswer.{CreditAnswer}
 use Rattle.credit.specs.declared.CreditAnswer.the-variants.{Granted, BadSheet, Refused}
 use Rattle.credit.specs.declared.Wanted.{Wanted}

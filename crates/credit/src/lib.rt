@@ -2,7 +2,7 @@
 ghost use mathlib.Core.Path.{_≡_};
 ghost use Prim.Native.Nat.{_≤_};
 ghost use Rattle.units.specs.Limits.{largest, mostPercent, highestDepth};
-ghost use Rattle.volume.specs.Areas.{areaAt, volumeFrom, Six};
+ghost use Rattle.volume.specs.Areas.{areaAt, volumeFrom};
 ghost use Rattle.volume.specs.Answers.{depthOn};
 ghost use Rattle.credit.specs.Credit.{figuresOf, creditBy, sizedAt};
 ghost use Rattle.published.specs.Published.{depthsIn, between, Standing};

@@ -1,25 +1,23 @@
 -- The loop that searches for the least depth of a target: the bisection of the grid, and the percent at its upper end.
 -- Assumes nothing.
 use Prim.Native.Nat.{ℕ, _+_, _-_, _≤_, _<_}
-use mathlib.Core.Bool.{Bool, true, false}
+use mathlib.Core.Bool.{Bool}
 use mathlib.Core.List.{List}
-use mathlib.Core.Path.{_≡_, sym, _∙_, ap}
+use mathlib.Core.Path.{_≡_, _∙_, ap}
 use native.Mathlib.Omega.{arith}
 use lib.Dec.{ltb, lit<}
 use borrow.Author.Tests.{lt-ltb, le-ltb}
 use Rattle.laws.specs.First.{middle}
 use Rattle.laws.proofs.Bisection.{Halving, halving-starts, halving-up, halving-down, halving-done, halving-met}
-use Rattle.refusal.specs.declared.Refusal.{Refusal}
 use Rattle.units.specs.Limits.{highestDepth, gridDepths}
 use Rattle.curve.specs.declared.Mode.{Mode}
 use Rattle.curve.specs.declared.Curves.{Curves}
 use Rattle.curve.specs.declared.Admission.{Admission}
 use Rattle.curve.specs.declared.Admission.the-variants as admission
-use Rattle.curve.specs.declared.Reached.{Reached}
 use Rattle.curve.specs.declared.Reached.the-variants as reach
 use Rattle.curve.specs.Curve.{percentAt}
 use Rattle.curve.specs.Ready.{Ready}
-use Rattle.curve.specs.Answers.{admissionOf, leastDepth, Reaching, reachOf}
+use Rattle.curve.specs.Answers.{admissionOf, Reaching, reachOf}
 use Rattle.curve.proofs.Answering.{reaches-once, reach-found, reach-short}
 
 -- the depths whose percent is below the target

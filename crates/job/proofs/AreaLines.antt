@@ -1,12 +1,11 @@
 -- An area line that is read field by field where it stands is the line of the definition.
 -- Assumes nothing.
-use Prim.Native.Nat.{ℕ, _+_}
+use Prim.Native.Nat.{ℕ}
 use mathlib.Core.Path.{_≡_, refl, sym, _∙_, ap}
 use mathlib.Core.Bool.{Bool, true, false, cond}
-use mathlib.Core.List.{List, [], _∷_}
+use mathlib.Core.List.{List, []}
 use native.Mathlib.Omega.{arith}
-use lib.ListN.{length, drop}
-use lib.Seq.{drop-drop}
+use lib.ListN.{drop}
 use Rattle.laws.specs.Text.{bytes}
 use Rattle.text.specs.declared.Found.{Found}
 use Rattle.text.specs.declared.Found.the-variants.{At, Nothing}
@@ -14,20 +13,18 @@ use Rattle.text.specs.declared.Numeral.{Numeral}
 use Rattle.text.specs.declared.Numeral.the-variants as number
 use Rattle.text.specs.Part.{partOf}
 use Rattle.text.specs.Pieces.{space, lineFeed, comma, indexOf, hasOf, beforeOf, afterOf, pieces, joined}
-use Rattle.text.specs.Words.{sameOf, opensOf, behindOf, placeFrom, wordFrom}
+use Rattle.text.specs.Words.{sameOf, behindOf, placeFrom, wordFrom}
 use Rattle.text.specs.Numbers.{numberOf}
-use Rattle.text.proofs.Parts.{part-tail}
 use Rattle.text.proofs.Between.{after-none}
-use Rattle.text.proofs.Front.{free, allFree, On}
+use Rattle.text.proofs.Front.{free, allFree}
 use Rattle.site.specs.declared.SubArea.{SubArea}
 use Rattle.text.specs.declared.WordStep.{WordStep}
 use Rattle.job.specs.declared.NumberStep.{NumberStep}
-use Rattle.job.specs.declared.AreaStep.{AreaStep}
 use Rattle.job.specs.declared.AreaLine.{AreaLine}
 use Rattle.job.specs.declared.AreaLine.the-variants.{Is, Malformed}
 use Rattle.job.specs.Words.{landWords, coverWords, soilWords}
 use Rattle.job.specs.Lines.{linesOf, valueOf}
-use Rattle.job.specs.Areas.{subAreaFrom, subAreaOf, areaIn}
+use Rattle.job.specs.Areas.{subAreaFrom, subAreaOf}
 use Rattle.job.specs.Scanning.{countedAt, areaOn, Lined}
 use Rattle.job.proofs.Scanning.{field-place, field-there, field-rest, field-goes-on}
 use Rattle.job.proofs.Valued.{value-read, read-goes-on, numeral-told, counted-there, counted-after}

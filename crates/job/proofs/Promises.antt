@@ -1,40 +1,47 @@
 -- The promises of a reading.
 -- Assumes nothing.
-use Prim.Native.Nat.{ℕ, suc, _+_, _≤_}
+use Prim.Native.Nat.{ℕ, suc, _+_}
 use mathlib.Core.Bool.{Bool, true, false, cond, _&&_}
 use mathlib.Core.List.{List, [], _∷_}
-use mathlib.Core.Path.{_≡_, refl, sym, _∙_, ap}
+use mathlib.Core.Path.{_≡_, refl, _∙_, ap}
 use native.Mathlib.Omega.{arith}
+use borrow.Author.Tests.{eq-eqb}
 use lib.Dec.{eqb, ltb, leb}
-use lib.ListN.{length, getD, drop, length-set}
-use Rattle.refusal.specs.declared.Refusal.{Refusal}
-use Rattle.refusal.specs.declared.Refusal.the-variants.{MalformedText, UnfitSubArea, TotalAreaPassed, SiteFull}
+use lib.ListN.{length, drop, length-set}
+use Rattle.refusal.specs.declared.Refusal.the-variants.{MalformedText}
+use Rattle.refusal.specs.Refusal.{numberOf, granted}
+use Rattle.refusal.proofs.Numbers.{refusal-not-granted}
 use Rattle.units.specs.declared.Area.{Area}
 use Rattle.site.specs.declared.Site.{Site}
 use Rattle.site.specs.declared.SubArea.{SubArea}
-use Rattle.site.specs.declared.Added.{Added}
 use Rattle.site.specs.declared.AreaAnswer.{AreaAnswer}
 use Rattle.site.specs.declared.AreaAnswer.the-variants as area
-use Rattle.site.specs.Parts.{mostParts, areaOf, emptySite}
-use Rattle.site.specs.Judging.{fits, hasRoom, judged, afterJudging}
-use Rattle.site.specs.Adding.{kept, enlarged, addedTo}
+use Rattle.site.specs.Parts.{emptySite}
+use Rattle.site.specs.Judging.{judged, afterJudging, given as givenArea}
+use Rattle.site.specs.Adding.{settled, addAnswer, addedTo}
 use Rattle.site.specs.Promises.{Sized}
-use Rattle.site.proofs.Promises.{empty-fine, holds-to}
+use Rattle.site.proofs.Promises.{empty-judged, holds-to}
 use Rattle.text.specs.Pieces.{lineFeed, startOf, endOf}
 use Rattle.text.proofs.Between.{piece-bytes, last-ends, empty-starts}
 use Rattle.job.specs.declared.Job.{Job}
 use Rattle.job.specs.declared.HeadRead.{HeadRead}
 use Rattle.job.specs.declared.HeadRead.the-variants.{Fine, Bad}
 use Rattle.job.specs.declared.Reading.{Reading}
+use Rattle.job.specs.declared.JobAnswer.{JobAnswer}
 use Rattle.job.specs.declared.JobAnswer.the-variants.{Granted, Refused}
 use Rattle.job.specs.declared.AreaLine.{AreaLine}
 use Rattle.job.specs.declared.AreaLine.the-variants.{Is, Malformed}
 use Rattle.job.specs.Lines.{linesOf}
 use Rattle.job.specs.Head.{headOf}
 use Rattle.job.specs.Areas.{areaIn, addedLine, refusedAt, endedAt, areasFrom}
-use Rattle.job.specs.Reading.{mostBytes, headLines, behindHead, readingOf}
-use Rattle.job.specs.Fault.{atTheEnd, lineSpan, faultIn, faultOf}
-use Rattle.job.specs.Promises.{Beside, SiteBeside, OffendingLine, MissingLine}
+use Rattle.job.specs.Reading.{mostBytes, headLines, behindHead, readingOf, given}
+use Rattle.job.specs.Fault.{lineSpan, faultIn, faultOf}
+use Rattle.job.specs.Promises.{SiteBeside, OffendingLine, MissingLine}
+
+-- a site that is judged fine stands beside a job, the empty site beside a refusal
+abbrev Beside : JobAnswer → Site → Type 0
+Beside (Granted job) site = (total : Area) × (judged site ≡ area.Granted total)
+Beside (Refused why line) site = site ≡ emptySite
 
 abbrev Sound : Reading → Type 0
 Sound r = Beside (r .answer) (r .site)
@@ -42,13 +49,11 @@ Sound r = Beside (r .answer) (r .site)
 -- an add keeps the 32 places of a record
 sized-added : (s : Site) (total : ℕ) (p : SubArea) → Sized s → Sized (addedTo s total p .site)
 unfolding addedTo
-sized-added s total p z = at (fits p) (ltb (s .count) mostParts) (hasRoom total (areaOf p))
+sized-added s total p z = told (addAnswer (s .count) total p)
   where
-    at : (b c d : Bool) → Sized (cond b (cond c (cond d (record { answer = area.Granted (record { 0 = total + areaOf p }); site = enlarged s p }) (kept s TotalAreaPassed)) (kept s SiteFull)) (kept s UnfitSubArea) .site)
-    at true true true = length-set (s .parts) (s .count) p ∙ z
-    at true true false = z
-    at true false d = z
-    at false c d = z
+    told : (x : AreaAnswer) → Sized (settled s p x .site)
+    told (area.Granted more) = length-set (s .parts) (s .count) p ∙ z
+    told (area.Refused why) = z
 
 -- the areas end at a site that is judged fine, or are refused
 ended-sound : (job : Job) (rest : List ℕ) (k : ℕ) (s : Site) (total : Area) → judged s ≡ area.Granted total → Sound (endedAt job rest k s)
@@ -83,26 +88,37 @@ areas-sound job (line ∷ next ∷ others) k s total z j =
 head-sound : (lines : List (List ℕ)) (h : HeadRead) → Sound (behindHead h lines)
 unfolding behindHead
 head-sound lines (Bad k) = refl
-head-sound lines (Fine job) = areas-sound job (drop headLines lines) 7 emptySite (record { 0 = 0 }) refl empty-fine
+head-sound lines (Fine job) = areas-sound job (drop headLines lines) 7 emptySite (record { 0 = 0 }) refl empty-judged
 
-pub site-beside : SiteBeside
+beside : (s : List ℕ) → Sound (readingOf s)
 unfolding readingOf
-site-beside s = at (ltb mostBytes (length s))
+beside s = at (ltb mostBytes (length s))
   where
     at : (b : Bool) → Sound (cond b (refusedAt 0 MalformedText) (behindHead (headOf (linesOf s)) (linesOf s)))
     at true = refl
     at false = head-sound (linesOf s) (headOf (linesOf s))
 
+pub site-beside : SiteBeside
+site-beside s = told (readingOf s .answer) (readingOf s .site) (beside s)
+  where
+    told : (x : JobAnswer) (site : Site) → Beside x site → (given x .number ≡ granted → givenArea (judged site) .0 ≡ granted) × ((given x .number ≡ granted → ⊥) → site ≡ emptySite)
+    told (Granted job) site b = (λ e. ap (λ (a : AreaAnswer). givenArea a .0) (b .1), λ no. absurd (no refl))
+    told (Refused why k) site b = (λ e. absurd (refusal-not-granted why e), λ no. b)
+
 -- refusal 1 in a line points to that line
-fault-span : (s : List ℕ) (k : ℕ) → readingOf s .answer ≡ Refused MalformedText (suc k) → faultOf s ≡ record { from = startOf lineFeed s k; to = endOf lineFeed s k }
+fault-span : (s : List ℕ) (k : ℕ) → given (readingOf s .answer) .number ≡ numberOf MalformedText → given (readingOf s .answer) .line ≡ suc k → faultOf s ≡ record { from = startOf lineFeed s k; to = endOf lineFeed s k }
 unfolding faultIn lineSpan
-fault-span s k e = rw e
+fault-span s k = told (readingOf s .answer)
+  where
+    told : (x : JobAnswer) → given x .number ≡ numberOf MalformedText → given x .line ≡ suc k → faultIn s x ≡ record { from = startOf lineFeed s k; to = endOf lineFeed s k }
+    told (Granted job) e f = absurd (omega arith)
+    told (Refused why j) e f = rw (eq-eqb (numberOf why) (numberOf MalformedText) e, f)
 
 pub offending-line : OffendingLine
-offending-line s k e = rw (fault-span s k e) (piece-bytes lineFeed s k)
+offending-line s k e f = rw (fault-span s k e f) (piece-bytes lineFeed s k)
 
 pub missing-line : MissingLine
-missing-line s k e last empty =
+missing-line s k e f last empty =
     let ends = last-ends lineFeed s k last in
     let starts = empty-starts lineFeed s k empty in
-    fault-span s k e ∙ (λ i. record { from = (starts ∙ ends) i; to = ends i })
+    fault-span s k e f ∙ (λ i. record { from = (starts ∙ ends) i; to = ends i })

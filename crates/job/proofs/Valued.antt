@@ -3,18 +3,17 @@
 use Prim.Native.Nat.{ℕ, _+_, _-_, _≤_, _<_}
 use mathlib.Core.Path.{_≡_, refl, sym, _∙_, ap}
 use mathlib.Core.Bool.{Bool, true, false, cond}
-use mathlib.Core.List.{List, [], _∷_}
+use mathlib.Core.List.{List, []}
 use native.Mathlib.Omega.{arith}
 use native.Mathlib.Nat.{sub-zero}
 use borrow.Author.Tests.{lt-ltb, le-ltb}
 use lib.ListN.{length, drop, length-drop}
 use lib.Seq.{drop-drop, drop-length}
-use Rattle.text.specs.declared.Found.{Found}
 use Rattle.text.specs.declared.Found.the-variants.{At, Nothing}
 use Rattle.text.specs.declared.Numeral.{Numeral}
 use Rattle.text.specs.declared.Numeral.the-variants as number
 use Rattle.text.specs.Part.{partOf}
-use Rattle.text.specs.Pieces.{lineFeed, comma, indexOf, hasOf, beforeOf, afterOf, pieces, nextOf}
+use Rattle.text.specs.Pieces.{lineFeed, indexOf, hasOf, beforeOf, afterOf, nextOf}
 use Rattle.text.specs.Words.{opensOf, behindOf, placeFrom, wordFrom}
 use Rattle.text.specs.Numbers.{numberOf}
 use Rattle.text.proofs.Parts.{part-tail}

@@ -1,12 +1,11 @@
 -- The walk over the area lines.
 -- Assumes nothing.
 use Prim.Native.Nat.{ℕ, _+_, _-_, _≤_, _<_}
-use mathlib.Core.Bool.{Bool, true, false, cond, _&&_}
-use mathlib.Core.List.{List, [], _∷_}
-use mathlib.Core.Path.{_≡_, refl, sym, _∙_, ap}
+use mathlib.Core.Bool.{Bool, true, false, cond}
+use mathlib.Core.List.{List, []}
+use mathlib.Core.Path.{_≡_, refl, sym, _∙_}
 use native.Mathlib.Omega.{arith}
-use borrow.Author.Tests.{eq-eqb, ne-eqb, le-leb, lt-leb}
-use lib.Dec.{eqb, leb}
+use borrow.Author.Tests.{ne-eqb, le-leb, lt-leb}
 use lib.ListN.{length, drop, length-drop, drop-of-length-le}
 use Rattle.refusal.specs.declared.Refusal.{Refusal}
 use Rattle.refusal.specs.declared.Refusal.the-variants.{MalformedText}
@@ -24,7 +23,6 @@ use Rattle.text.proofs.Splitting.{pieces-step, before-all, after-shorter}
 use Rattle.job.specs.declared.Job.{Job}
 use Rattle.job.specs.declared.Reading.{Reading}
 use Rattle.job.specs.declared.JobAnswer.the-variants as answer
-use Rattle.job.specs.declared.AreaLine.{AreaLine}
 use Rattle.job.specs.declared.AreaLine.the-variants.{Is, Malformed}
 use Rattle.job.specs.declared.AreaStep.{AreaStep}
 use Rattle.job.specs.Lines.{linesOf}

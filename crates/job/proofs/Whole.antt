@@ -15,7 +15,7 @@ use Rattle.job.specs.Lines.{linesOf}
 use Rattle.job.specs.Head.{headOf}
 use Rattle.job.specs.Scanning.{Headed}
 use Rattle.job.specs.Areas.{refusedAt, areasFrom}
-use Rattle.job.specs.Reading.{mostBytes, headLines, behindHead, readingOf}
+use Rattle.job.specs.Reading.{mostBytes, behindHead, readingOf}
 
 module _ (s : List ℕ) where
   pub reading-long : {r : Reading} → mostBytes < length s → r ≡ refusedAt 0 MalformedText → r ≡ readingOf s

@@ -9,7 +9,6 @@ use Rattle.laws.specs.Text.{bytes}
 use Rattle.refusal.specs.declared.Refusal.{Refusal}
 use Rattle.refusal.specs.declared.Refusal.the-variants.{MalformedText}
 use Rattle.site.specs.declared.Site.{Site}
-use Rattle.site.specs.declared.SubArea.{SubArea}
 use Rattle.site.specs.declared.Added.{Added}
 use Rattle.site.specs.Parts.{emptySite}
 use Rattle.site.specs.Judging.{afterJudging}

@@ -10,7 +10,6 @@ use Rattle.text.specs.declared.Numeral.{Numeral}
 use Rattle.text.specs.declared.Numeral.the-variants.{Is, Malformed}
 use Rattle.text.specs.Words.{placeOf}
 use Rattle.text.specs.Numbers.{numberOf}
-use Rattle.job.specs.declared.Job.{Job}
 use Rattle.job.specs.declared.HeadRead.{HeadRead}
 use Rattle.job.specs.declared.HeadRead.the-variants.{Fine, Bad}
 use Rattle.job.specs.Words.{practiceWords, nutrientWords, modeWords, taskWords, nutrientAt, modeAt, taskAt}

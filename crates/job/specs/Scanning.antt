@@ -1,4 +1,4 @@
--- The lines of a job text read where they stand, and the place behind each.
+-- The lines of a job text read where they stand, and the place behind each. Only the reader's inner functions cite this.
 -- Assumes nothing.
 use Prim.Native.Nat.{ℕ, _+_}
 use mathlib.Core.Path.{_≡_}

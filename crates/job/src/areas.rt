@@ -14,7 +14,7 @@ use super::AreaStep;
 use super::Job;
 use super::JobAnswer;
 use super::Reading;
-use super::lines;
+use super::numbers;
 use super::refused;
 use super::words;
 use refusal::Refusal;
@@ -103,7 +103,7 @@ fn read_area(text: &[u8], at: usize) -> AreaStep
     let land = text::word_at(&words::LANDS, words::LAND_WIDTH, text, from, b',');
     let cover = text::word_at(&words::COVERS, words::COVER_WIDTH, text, land.next, b',');
     let soil = text::word_at(&words::SOILS, words::SOIL_WIDTH, text, cover.next, b',');
-    let area = lines::number(text, soil.next);
+    let area = numbers::number_at(text, soil.next);
     let of_land = land.place;
     let of_cover = cover.place;
     let of_soil = soil.place;

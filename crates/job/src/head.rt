@@ -1,18 +1,17 @@
 // The first six lines of a job: practice, nutrient, mode, rate, task and amount.
 ghost use mathlib.Core.Path.{_≡_};
 ghost use Prim.Native.Nat.{_<_};
-ghost use Rattle.text.specs.Words.{Within};
+ghost use Rattle.text.specs.Pieces.{lineFeed};
+ghost use Rattle.text.specs.Words.{Within, behindOf, rowsOf, wordFrom};
 ghost use Rattle.job.specs.Words.{nutrientAt, modeAt, taskAt};
 ghost use Rattle.job.specs.Head.{headFrom};
-ghost use Rattle.text.specs.Pieces.{lineFeed};
-ghost use Rattle.text.specs.Words.{behindOf, rowsOf, wordFrom};
 ghost use Rattle.job.specs.Scanning.{countedAt, Headed};
 use super::HeadRead;
 use super::HeadStep;
 use super::Job;
 use super::NumberStep;
 use super::Task;
-use super::lines;
+use super::numbers;
 use super::words;
 use curve::Mode;
 use text::Found;
@@ -96,7 +95,7 @@ fn word(text: &[u8], at: usize, key: &[u8], words: &[u8], width: usize) -> WordS
 fn number(text: &[u8], at: usize, key: &[u8]) -> NumberStep
     ensures { λ r. ⌜ r ≡ countedAt (now (text .entry)) (behindOf (now (key .entry)) (now (text .entry)) at) ⌝ }
 {
-    lines::number(text, text::behind(text, at, key))
+    numbers::number_at(text, text::behind(text, at, key))
 }
 
 // The head of a text, with the place behind it.

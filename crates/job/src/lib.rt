@@ -14,7 +14,7 @@ use units::Rate;
 
 mod areas;
 mod head;
-mod lines;
+mod numbers;
 mod words;
 
 pub enum Task {

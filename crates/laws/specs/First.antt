@@ -1,7 +1,7 @@
 -- The first number at which a test fails, and what bisection asks of a test.
 -- Assumes nothing.
 use Prim.Native.Nat.{ℕ, zero, suc, _+_, _-_, _/_, _≤_, _<_}
-use mathlib.Core.Bool.{Bool, true, false, cond}
+use mathlib.Core.Bool.{Bool, true, cond}
 use mathlib.Core.Path.{_≡_}
 
 -- the first of the n numbers from k on at which the test fails, or k + n where it passes at each of them

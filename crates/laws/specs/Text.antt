@@ -2,7 +2,7 @@
 -- Assumes nothing.
 use Prim.Native.Nat.{ℕ}
 use Prim.Native.String.{String, [] as ε, _∷_ as _⊕_}
-use Prim.Native.Char.{Char, code}
+use Prim.Native.Char.{code}
 use mathlib.Core.List.{List, [], _∷_}
 
 abbrev pub bytes : String → List ℕ

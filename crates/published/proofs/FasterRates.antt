@@ -1,16 +1,16 @@
 -- In no published sheet does a percent fall as its rate rises.
 -- Assumes nothing.
 use Prim.Native.Nat.{ℕ, _+_, _*_, _≤_, _<_}
-use mathlib.Core.Bool.{Bool, true, false, cond, _&&_}
+use mathlib.Core.Bool.{Bool, true, cond, _&&_}
 use mathlib.Core.List.{List}
 use mathlib.Core.Logic.{⊎-elim}
-use mathlib.Core.Path.{_≡_, refl, sym}
+use mathlib.Core.Path.{_≡_, refl}
 use native.Mathlib.Nat.{mul-le-mul-right}
 use native.Mathlib.Omega.{arith}
 use lib.Dec.{leb, ltb, eqb}
 use lib.ListN.{length, getD}
-use borrow.Author.Tests.{leb-true, ltb-true, ltb-false, eqb-true, lt-ltb}
-use Rattle.laws.specs.Table.{every, everyFrom}
+use borrow.Author.Tests.{leb-true, ltb-false, eqb-true, lt-ltb}
+use Rattle.laws.specs.Table.{every}
 use Rattle.laws.proofs.And.{and-left, and-right}
 use Rattle.laws.proofs.Order.{lt-or-le}
 use Rattle.laws.proofs.Table.{carry}
@@ -18,7 +18,7 @@ use Rattle.units.specs.declared.Nutrient.{Nutrient}
 use Rattle.units.specs.declared.Nutrient.the-variants.{P, N}
 use Rattle.curve.specs.Promises.{FasterIsNoLess}
 use Rattle.published.specs.Tables.{depths}
-use Rattle.published.specs.Published.{lastPractice, ratesOf, percentsOf, isPublished}
+use Rattle.published.specs.Published.{lastPractice, ratesOf, percentsOf}
 use Rattle.published.specs.Promises.{NoneFallsWithRate}
 use Rattle.published.proofs.Places.{for-each, none-above}
 

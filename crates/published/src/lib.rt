@@ -3,7 +3,7 @@ mod tables;
 
 ghost use Prim.Native.Nat.{_≤_, _<_};
 ghost use mathlib.Core.Path.{_≡_};
-ghost use lib.ListN.{length, getD};
+ghost use lib.ListN.{getD};
 ghost use Rattle.curve.specs.Answers.{percentAnswer, reachOf};
 ghost use Rattle.published.specs.Published.{lastPractice, allSheets, starts, counts, turns, turnOf, placeOf, depthsIn, between, Standing, percentPublished, reachPublished};
 use curve::Mode;

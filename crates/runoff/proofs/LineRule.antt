@@ -2,12 +2,11 @@
 -- Assumes nothing.
 use Prim.Native.Nat.{ℕ, suc, _+_, _*_, _/_, _%_, _≤_, _<_}
 use mathlib.Core.Bool.{Bool, true, false, cond}
-use mathlib.Core.List.{List}
-use mathlib.Core.Path.{_≡_, refl, sym, _∙_, ap, subst}
+use mathlib.Core.Path.{_≡_, refl, sym, _∙_, ap}
 use native.Mathlib.Nat.{mul-add-div-right, mul-add-mod-self-right, div-eq-of-lt, mod-eq-of-lt, add-zero, add-suc}
 use native.Mathlib.Omega.{arith}
 use lib.Dec.{eqb, leb, lit<}
-use lib.ListN.{length, getD}
+use lib.ListN.{getD}
 use borrow.Author.Tests.{leb-true, ne-eqb}
 use Rattle.laws.proofs.Table.{carry, rises, length-table, table-at}
 use Rattle.laws.specs.Table.{every, valuesFrom}
@@ -15,7 +14,7 @@ use Rattle.units.proofs.Columns.{place-most}
 use Rattle.units.specs.declared.Column.{Column}
 use Rattle.units.specs.Columns.{columnPlace}
 use Rattle.units.specs.Limits.{highestDepth, gridDepths}
-use Rattle.runoff.specs.Runoff.{rows, byRows, fromRow, runoffOf, sheetEntry, sheetLength, runoffSheet, entryPlace}
+use Rattle.runoff.specs.Runoff.{byRows, fromRow, runoffOf, sheetEntry, sheetLength, runoffSheet, entryPlace}
 
 -- The entry at a column and a depth of the grid is the line rule there.
 entry-rule : (c : Column) (d : ℕ) → d ≤ highestDepth → sheetEntry (entryPlace c d) ≡ runoffOf c d

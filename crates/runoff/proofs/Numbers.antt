@@ -1,10 +1,10 @@
 -- 01's sentences and numbers for runoff, of the definitions, by computation.
 -- Assumes nothing.
-use Prim.Native.Nat.{ℕ, zero, _-_, _*_, _/_, _%_, _∣_}
+use Prim.Native.Nat.{ℕ, _-_, _*_, _%_}
 use mathlib.Core.List.{List, [], _∷_, map}
 use mathlib.Core.Path.{_≡_, refl}
 use native.Mathlib.Nat.{dvd-add, dvd-mul-left-of-dvd, dvd-mul-right-of-dvd, dvd-of-mod-eq-zero, div-mul-cancel}
-use lib.ListN.{getD, replicate}
+use lib.ListN.{replicate}
 use Rattle.laws.specs.Line.{line}
 use Rattle.units.specs.declared.Column.{Column}
 use Rattle.units.specs.declared.Column.the-variants.{A, B, C, CD, D}

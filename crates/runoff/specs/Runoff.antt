@@ -13,7 +13,6 @@ use Rattle.units.specs.declared.Column.{Column}
 use Rattle.units.specs.declared.Depth.{Depth}
 use Rattle.units.specs.Columns.{columnPlace}
 use Rattle.units.specs.Limits.{highestDepth, gridDepths}
-use Rattle.runoff.specs.declared.RunoffDepth.{RunoffDepth}
 use Rattle.runoff.specs.declared.RunoffAnswer.{RunoffAnswer}
 use Rattle.runoff.specs.declared.RunoffAnswer.the-variants.{Granted, Refused}
 

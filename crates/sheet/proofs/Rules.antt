@@ -4,7 +4,7 @@ use Prim.Native.Nat.{ℕ, _+_, _*_, _≤_, _<_}
 use mathlib.Core.Bool.{Bool, true, false, cond}
 use mathlib.Core.List.{List}
 use mathlib.Core.Logic.{_⊎_, inl, inr, ⊎-elim}
-use mathlib.Core.Path.{_≡_, refl}
+use mathlib.Core.Path.{_≡_, refl, ap}
 use native.Mathlib.Nat.{le-antisymm, le-of-eq, le-refl}
 use native.Mathlib.Omega.{arith}
 use lib.Dec.{leb, ltb}
@@ -13,11 +13,14 @@ use borrow.Author.Tests.{leb-true, le-leb, ltb-false, le-ltb, eq-eqb}
 use Rattle.laws.proofs.And.{and-left, and-right}
 use Rattle.laws.proofs.First.{first-le, first-all, first-is}
 use Rattle.laws.proofs.Order.{passes-or-fails, never-both}
+use Rattle.refusal.specs.declared.Refusal.the-variants.{UnfitSheet}
+use Rattle.refusal.specs.Refusal.{granted}
+use Rattle.refusal.proofs.Numbers.{refusal-not-granted}
 use Rattle.units.specs.Limits.{mostRate, mostPercent, highestDepth}
 use Rattle.sheet.specs.declared.Verdict.{Verdict}
 use Rattle.sheet.specs.declared.Verdict.the-variants.{Fine, Unfit}
-use Rattle.sheet.specs.Sheet.{mostDepths, mostRates, previous, inStep, offending, offendingDepth, offendingRate, offendingPercent, lengthsFit, withoutRates, judged, verdictOf}
-use Rattle.sheet.specs.Rules.{InStep, Rules}
+use Rattle.sheet.specs.Sheet.{mostDepths, mostRates, previous, inStep, offending, offendingDepth, offendingRate, offendingPercent, lengthsFit, withoutRates, judged, verdictOf, given}
+use Rattle.sheet.specs.Rules.{InStep, Rules, FineExactly}
 use Rattle.sheet.proofs.Lengths.{lengths-kept}
 
 -- No unfit verdict is a fine one.
@@ -125,3 +128,10 @@ module _ (ds rs ps : List ℕ) where
         le-ltb (offendingRate rs) (length rs) (kept-rates rs (s .rates)),
         le-ltb (offendingPercent (length ds) ps) (length ps) (in-step-none ps (length ds) 0 mostPercent (s .percents)),
       )
+
+pub fine-exactly : FineExactly
+fine-exactly ds rs ps = (λ e. fine-rules ds rs ps (told (verdictOf ds rs ps) e), λ r. ap (λ (v : Verdict). given v .0) (rules-fine ds rs ps r))
+  where
+    told : (v : Verdict) → given v .0 ≡ granted → v ≡ Fine
+    told Fine e = refl
+    told (Unfit list place) e = absurd (refusal-not-granted UnfitSheet e)

@@ -1,13 +1,14 @@
--- 01, "Curve sheets": what a sheet must keep, said of every depth, rate and percent. A sheet is judged fine exactly when it keeps all of it.
+-- 01, "Curve sheets": what a sheet must keep, said of every depth, rate and percent.
 -- Assumes nothing.
 use Prim.Native.Nat.{ℕ, _+_, _*_, _≤_, _<_}
 use mathlib.Core.Bool.{true}
 use mathlib.Core.List.{List}
-use mathlib.Core.Logic.{_⊎_}
+use mathlib.Core.Logic.{_⊎_, _↔_}
 use mathlib.Core.Path.{_≡_}
 use lib.ListN.{length, getD}
+use Rattle.refusal.specs.Refusal.{granted}
 use Rattle.units.specs.Limits.{mostRate, mostPercent, highestDepth}
-use Rattle.sheet.specs.Sheet.{mostDepths, mostRates, previous, withoutRates}
+use Rattle.sheet.specs.Sheet.{mostDepths, mostRates, previous, withoutRates, verdictOf, given}
 
 -- every number, in rows of n, is at least `gap` above the one before it, 0 at the start of a row, and at most `most`
 pub record InStep (xs : List ℕ) (n gap most : ℕ) : Type 0 where
@@ -23,3 +24,7 @@ pub record Rules (ds rs ps : List ℕ) : Type 0 where
   pub depths : InStep ds (length ds) 1 highestDepth
   pub rates : (withoutRates rs ≡ true) ⊎ InStep rs (length rs) 1 mostRate
   pub percents : InStep ps (length ds) 0 mostPercent
+
+-- A sheet is judged fine exactly when it keeps the rules.
+abbrev pub FineExactly : Type 0
+FineExactly = (ds rs ps : List ℕ) → (given (verdictOf ds rs ps) .0 ≡ granted) ↔ Rules ds rs ps

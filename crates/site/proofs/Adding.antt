@@ -13,12 +13,11 @@ use Rattle.units.specs.declared.Area.{Area}
 use Rattle.units.specs.Limits.{mostArea}
 use Rattle.site.specs.declared.SubArea.{SubArea}
 use Rattle.site.specs.declared.Site.{Site}
-use Rattle.site.specs.declared.Added.{Added}
 use Rattle.site.specs.declared.AreaAnswer.{AreaAnswer}
 use Rattle.site.specs.declared.AreaAnswer.the-variants.{Granted, Refused}
 use Rattle.site.specs.Parts.{areaOf, mostParts}
 use Rattle.site.specs.Judging.{fits, hasRoom, judged, afterJudging}
-use Rattle.site.specs.Adding.{kept, stored, addAnswer, addedTo, added}
+use Rattle.site.specs.Adding.{settled, stored, addAnswer, addedTo, added}
 use Rattle.site.proofs.Judging.{never-granted}
 
 module _ (count total : ℕ) (p : SubArea) {b : Bool} (e : b ≡ fits p) where
@@ -69,24 +68,10 @@ grants count total p a = told (fits p) (ltb count mostParts) (hasRoom total (are
 pub granted-place : (count total : ℕ) (p : SubArea) {x : AreaAnswer} {a : Area} → x ≡ addAnswer count total p → x ≡ Granted a → count < mostParts
 granted-place count total p {x} {a} e f = grants count total p a (sym e ∙ f) .place
 
--- what goes with an answer: the site with the sub-area stored, or as it was
-abbrev pub settled : Site → SubArea → AreaAnswer → Added
-settled s p (Granted total) = record { answer = Granted total; site = stored s p }
-settled s p (Refused why) = kept s why
-
 -- An add gives its answer and what goes with it.
 pub add-settles : (s : Site) (total : ℕ) (p : SubArea) → addedTo s total p ≡ settled s p (addAnswer (s .count) total p)
-unfolding addedTo addAnswer
-add-settles s total p = told (fits p) (ltb (s .count) mostParts) (hasRoom total (areaOf p))
-  where
-    told : (b d e : Bool)
-        → inTurn (kept s) (record { answer = Granted (record { 0 = total + areaOf p }); site = stored s p })
-        ((b, UnfitSubArea) ∷ (d, SiteFull) ∷ (e, TotalAreaPassed) ∷ [])
-        ≡ settled s p (inTurn Refused (Granted (record { 0 = total + areaOf p })) ((b, UnfitSubArea) ∷ (d, SiteFull) ∷ (e, TotalAreaPassed) ∷ []))
-    told true true true = refl
-    told true true false = refl
-    told true false e = refl
-    told false d e = refl
+unfolding addedTo
+add-settles s total p = refl
 
 pub add-answers : (s : Site) (total : ℕ) (p : SubArea) → addedTo s total p .answer ≡ addAnswer (s .count) total p
 add-answers s total p = rw (add-settles s total p) (told (addAnswer (s .count) total p))

@@ -61,10 +61,6 @@ judged-has s a e =
     let t = from-total 0 (partsOf s) a (omega arith) (g .1) in
     (g .0, t .0, omega arith, t .2)
 
--- What is granted is the total area of the sub-areas.
-pub judged-total : (s : Site) (a : Area) → judged s ≡ Granted a → totalArea (partsOf s) ≡ a .0
-judged-total s a e = judged-has s a e .2
-
 -- A record that is judged fine has at most 32 sub-areas and at most the largest area.
 pub judged-fine : (s : Site) (a : Area) → judged s ≡ Granted a → Fine s
 judged-fine s a e =

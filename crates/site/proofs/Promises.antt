@@ -12,43 +12,63 @@ use Rattle.laws.specs.Turn.{inTurn}
 use Rattle.laws.proofs.Sum.{sum-more}
 use Rattle.refusal.specs.declared.Refusal.{Refusal}
 use Rattle.refusal.specs.declared.Refusal.the-variants.{SiteFull}
+use Rattle.refusal.specs.Refusal.{granted}
+use Rattle.refusal.proofs.Numbers.{refusal-not-granted}
 use Rattle.units.specs.declared.Area.{Area}
 use Rattle.units.specs.Limits.{mostArea}
 use Rattle.site.specs.declared.SubArea.{SubArea}
 use Rattle.site.specs.declared.Site.{Site}
 use Rattle.site.specs.declared.AreaAnswer.{AreaAnswer}
 use Rattle.site.specs.declared.AreaAnswer.the-variants.{Granted, Refused}
-use Rattle.site.specs.Parts.{mostParts, partsOf, areaOf}
-use Rattle.site.specs.Judging.{fits, judgedFrom, judged, impervious, afterJudging}
-use Rattle.site.specs.Adding.{kept, stored, addAnswer, addedTo, added}
+use Rattle.site.specs.Parts.{mostParts, partsOf, areaOf, emptySite}
+use Rattle.site.specs.Judging.{fits, judgedFrom, judged, impervious, afterJudging, given}
+use Rattle.site.specs.Adding.{kept, stored, settled, addAnswer, addedTo, added}
 use Rattle.site.specs.Promises.{allFit, FineExactly, Sized, Alike, PastCountUnread, RefusedKeeps, GrantedHolds, AddsAgree, EmptyFine}
 use Rattle.site.proofs.Judging.{never-granted, judged-has, has-judged}
-use Rattle.site.proofs.Adding.{grants, settled, add-settles, add-answers, add-agrees}
+use Rattle.site.proofs.Adding.{grants, add-settles, add-answers, add-agrees}
+
+-- the numbers given back tell the answer
+pub given-granted : (x : AreaAnswer) (a : ℕ) → given x ≡ (granted, a) → x ≡ Granted (record { 0 = a })
+given-granted (Granted area) a e = ap (λ (n : ℕ). Granted (record { 0 = n })) (ap (λ (g : ℕ × ℕ). g .1) e)
+given-granted (Refused why) a e = absurd (refusal-not-granted why (ap (λ (g : ℕ × ℕ). g .0) e))
+
+pub given-refused : (x : AreaAnswer) → (given x .0 ≡ granted → ⊥) → (why : Refusal) × (x ≡ Refused why)
+given-refused (Granted area) h = absurd (h refl)
+given-refused (Refused why) h = (why, refl)
 
 pub fine-exactly : FineExactly
-fine-exactly s a = (judged-has s a, λ h. has-judged s a (h .0) (h .1) (h .2) (h .3))
+fine-exactly s a = (
+  λ e. judged-has s (record { 0 = a }) (given-granted (judged s) a e),
+  λ h. ap given (has-judged s (record { 0 = a }) (h .0) (h .1) (h .2) (h .3)),
+)
 
 pub adds-agree : AddsAgree
-adds-agree = add-agrees
+adds-agree s p total e = add-agrees s p (record { 0 = total }) (given-granted (judged s) total e)
+
+pub empty-judged : judged emptySite ≡ Granted (record { 0 = 0 })
+unfolding judged judgedFrom
+empty-judged = refl
 
 pub empty-fine : EmptyFine
-unfolding judged judgedFrom
-empty-fine = refl
+empty-fine = ap given empty-judged
 
 -- A refused answer comes with the site as it was.
 site-kept : (s : Site) (p : SubArea) (x : AreaAnswer) {why : Refusal} → settled s p x .answer ≡ Refused why → settled s p x .site ≡ s
 site-kept s p (Granted a) h = absurd (never-granted (sym h))
 site-kept s p (Refused r) h = refl
 
-pub refused-keeps : RefusedKeeps
+keeps : (s : Site) (p : SubArea) (why : Refusal) → added s p .answer ≡ Refused why → added s p .site ≡ s
 unfolding added
-refused-keeps s p why = told (judged s)
+keeps s p why = told (judged s)
   where
     told : (x : AreaAnswer)
         → afterJudging (kept s) (λ total. addedTo s total p) x .answer ≡ Refused why
         → afterJudging (kept s) (λ total. addedTo s total p) x .site ≡ s
     told (Granted total) = rw (add-settles s (total .0) p) (site-kept s p (addAnswer (s .count) (total .0) p))
     told (Refused r) = λ h. refl
+
+pub refused-keeps : RefusedKeeps
+refused-keeps s p h = let r = given-refused (added s p .answer) h in keeps s p (r .0) (r .1)
 
 -- One sub-area more that fits leaves all fitting.
 all-fit-more : (ps : List SubArea) (p : SubArea) → allFit ps ≡ true → fits p ≡ true → allFit (ps ++ (p ∷ [])) ≡ true
@@ -83,9 +103,10 @@ holds-to s p total a z j e =
     rw (add-settles s (total .0) p, x)
     (parts-stored s p z (g .place), stored-fine s p total z j (g .fit) (g .place) (g .within) ∙ ap Granted (g .new-total))
 
-pub granted-holds : GrantedHolds
+holds : (s : Site) (p : SubArea) (a : Area) → Sized s → added s p .answer ≡ Granted a
+    → (partsOf (added s p .site) ≡ partsOf s ++ (p ∷ [])) × (judged (added s p .site) ≡ Granted a)
 unfolding added
-granted-holds s p a z = told (judged s) refl
+holds s p a z = told (judged s) refl
   where
     told : (x : AreaAnswer) → judged s ≡ x
         → afterJudging (kept s) (λ total. addedTo s total p) x .answer ≡ Granted a
@@ -93,6 +114,10 @@ granted-holds s p a z = told (judged s) refl
         × (judged (afterJudging (kept s) (λ total. addedTo s total p) x .site) ≡ Granted a)
     told (Granted total) j e = holds-to s p total a z j e
     told (Refused why) j e = absurd (never-granted e)
+
+pub granted-holds : GrantedHolds
+granted-holds s p a z e =
+    let h = holds s p (record { 0 = a }) z (given-granted (added s p .answer) a e) in (h .0, ap given (h .1))
 
 module _ (s t : Site) (r : Alike s t) where
   judged-alike : judged s ≡ judged t

@@ -32,20 +32,18 @@ addAnswer count total p = inTurn Refused (Granted (record { 0 = total + areaOf p
 abbrev pub stored : Site → SubArea → Site
 stored s p = record { parts = set (s .parts) (s .count) p; count = s .count + 1 }
 
--- the site that a granted add hands back
-abbrev pub enlarged : Site → SubArea → Site
-enlarged = stored
-
 -- a refused add hands back the site as it was, past the count too
 abbrev pub kept : Site → Refusal → Added
 kept s why = record { answer = Refused why; site = s }
 
--- adding to a site of the total area that is given: the answer, beside the site with the sub-area stored or as it was
+-- what goes with an answer: the site with the sub-area stored, or as it was
+abbrev pub settled : Site → SubArea → AreaAnswer → Added
+settled s p (Granted total) = record { answer = Granted total; site = stored s p }
+settled s p (Refused why) = kept s why
+
+-- adding to a site of the total area that is given: the answer, and what goes with it
 unfoldable pub addedTo : Site → ℕ → SubArea → Added
-addedTo s total p =
-    inTurn (kept s)
-    (record { answer = Granted (record { 0 = total + areaOf p }); site = stored s p })
-    (addTests (s .count) total p)
+addedTo s total p = settled s p (addAnswer (s .count) total p)
 
 -- adding to a site record, which is judged before all else
 unfoldable pub added : Site → SubArea → Added

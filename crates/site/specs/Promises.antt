@@ -1,20 +1,18 @@
 -- 01, "Site and load": what is promised of a site record, as statements that proofs/Promises.antt proves.
 -- Assumes nothing.
-use Prim.Native.Nat.{_≤_}
+use Prim.Native.Nat.{ℕ, _≤_}
 use mathlib.Core.Path.{_≡_}
 use mathlib.Core.Bool.{Bool, true, _&&_}
 use mathlib.Core.List.{List, [], _∷_, _++_}
 use mathlib.Core.Logic.{_↔_}
 use lib.ListN.{length}
-use Rattle.refusal.specs.declared.Refusal.{Refusal}
-use Rattle.units.specs.declared.Area.{Area}
+use Rattle.refusal.specs.Refusal.{granted}
 use Rattle.units.specs.Limits.{mostArea}
 use Rattle.site.specs.declared.SubArea.{SubArea}
 use Rattle.site.specs.declared.Site.{Site}
-use Rattle.site.specs.declared.AreaAnswer.the-variants.{Granted, Refused}
 use Rattle.site.specs.Parts.{mostParts, partsOf, totalArea, emptySite}
-use Rattle.site.specs.Judging.{fits, judged, impervious}
-use Rattle.site.specs.Adding.{addedTo, added}
+use Rattle.site.specs.Judging.{fits, judged, impervious, given}
+use Rattle.site.specs.Adding.{addedTo, added, givenBack}
 
 -- each of the sub-areas fits
 unfoldable pub allFit : List SubArea → Bool
@@ -25,9 +23,9 @@ allFit (p ∷ ps) = fits p && allFit ps
 -- what is granted is the total area.
 abbrev pub FineExactly : Type 0
 FineExactly =
-    (s : Site) (a : Area)
-    → (judged s ≡ Granted a)
-    ↔ ((s .count ≤ mostParts) × (allFit (partsOf s) ≡ true) × (totalArea (partsOf s) ≡ a .0) × (a .0 ≤ mostArea))
+    (s : Site) (a : ℕ)
+    → (given (judged s) ≡ (granted, a))
+    ↔ ((s .count ≤ mostParts) × (allFit (partsOf s) ≡ true) × (totalArea (partsOf s) ≡ a) × (a ≤ mostArea))
 
 -- every record in memory has its 32 places
 abbrev pub Sized : Site → Type 0
@@ -50,20 +48,20 @@ PastCountUnread =
 
 -- A refused add hands back the site as it was, past the count too.
 abbrev pub RefusedKeeps : Type 0
-RefusedKeeps = (s : Site) (p : SubArea) (why : Refusal) → added s p .answer ≡ Refused why → added s p .site ≡ s
+RefusedKeeps = (s : Site) (p : SubArea) → (givenBack (added s p) .0 .0 ≡ granted → ⊥) → givenBack (added s p) .1 ≡ s
 
 -- A granted add puts the sub-area after the others, and hands back a record that is judged fine with the total area it answers.
 abbrev pub GrantedHolds : Type 0
 GrantedHolds =
-    (s : Site) (p : SubArea) (a : Area)
+    (s : Site) (p : SubArea) (a : ℕ)
     → Sized s
-    → added s p .answer ≡ Granted a
-    → (partsOf (added s p .site) ≡ partsOf s ++ (p ∷ [])) × (judged (added s p .site) ≡ Granted a)
+    → givenBack (added s p) .0 ≡ (granted, a)
+    → (partsOf (givenBack (added s p) .1) ≡ partsOf s ++ (p ∷ [])) × (given (judged (givenBack (added s p) .1)) ≡ (granted, a))
 
 -- Where a record is judged fine, the add that is told its total area gives what the public add gives.
 abbrev pub AddsAgree : Type 0
-AddsAgree = (s : Site) (p : SubArea) (total : Area) → judged s ≡ Granted total → addedTo s (total .0) p ≡ added s p
+AddsAgree = (s : Site) (p : SubArea) (total : ℕ) → given (judged s) ≡ (granted, total) → addedTo s total p ≡ added s p
 
 -- An empty site is judged fine.
 abbrev pub EmptyFine : Type 0
-EmptyFine = judged emptySite ≡ Granted (record { 0 = 0 })
+EmptyFine = given (judged emptySite) ≡ (granted, 0)

@@ -1,7 +1,7 @@
 -- Texts compared byte by byte.
 -- Assumes nothing.
 use Prim.Native.Nat.{ℕ, suc, _+_, _≤_, _<_}
-use mathlib.Core.Path.{_≡_, refl, sym, _∙_, ap}
+use mathlib.Core.Path.{_≡_, refl, ap}
 use mathlib.Core.Bool.{Bool, true, false, _&&_}
 use mathlib.Core.List.{List, [], _∷_}
 use native.Mathlib.Numerals.{add-one}
@@ -55,7 +55,7 @@ module _ {s t : List ℕ} where
   alike-all {i} a h =
       rw (drop-of-length-le s h, drop-of-length-le t {i = i} (let l = a .long in omega arith)) at (a .rest)
 
--- Texts that are found the same are equal, and equal ones are found the same.
+-- Texts that are found the same are equal.
 pub same-so-equal : (s t : List ℕ) → sameOf s t ≡ true → s ≡ t
 unfolding sameOf
 same-so-equal [] [] e = refl
@@ -69,8 +69,3 @@ same-so-equal (x ∷ s) (y ∷ t) e = heads (eqb x y) refl e (same-so-equal s t)
         let q = tails e in
         cc
     heads false h e tails = cc
-
-pub itself-is-same : (s : List ℕ) → sameOf s s ≡ true
-unfolding sameOf
-itself-is-same [] = refl
-itself-is-same (x ∷ s) = rw (eq-eqb x x refl) (itself-is-same s)

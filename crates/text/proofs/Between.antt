@@ -1,19 +1,18 @@
 -- Walking over the pieces of a text by what stands after each: where the walk stands, and what piece it finds.
 -- Assumes nothing.
-use Prim.Native.Nat.{ℕ, zero, suc, _+_, _-_, _≤_, _<_, min}
+use Prim.Native.Nat.{ℕ, zero, suc, _+_, _-_, _≤_}
 use mathlib.Core.Path.{_≡_, refl, sym, _∙_, ap, subst}
 use mathlib.Core.Bool.{Bool, true, false, cond}
-use mathlib.Core.List.{List, [], _∷_}
-use mathlib.Core.Logic.{_⊎_, inl, inr, ⊎-elim}
-use native.Mathlib.Nat.{add-zero, min-eq-left, min-eq-right}
+use mathlib.Core.List.{List, []}
+use mathlib.Core.Logic.{_⊎_, inl, inr}
+use native.Mathlib.Nat.{add-zero}
 use native.Mathlib.Numerals.{add-one}
 use native.Mathlib.Omega.{arith}
 use lib.ListN.{length, getD, take, drop, length-take, length-drop, drop-of-length-le}
-use lib.Seq.{take-nil, drop-drop, drop-length, drop-nil, getD-drop}
+use lib.Seq.{take-nil, drop-drop, drop-nil, getD-drop}
 use borrow.Author.Tests.{ltb-false}
-use Rattle.laws.proofs.Order.{lt-or-le}
 use Rattle.text.specs.Part.{partOf}
-use Rattle.text.specs.Pieces.{indexOf, hasOf, beforeOf, afterOf, pieces, nextOf, startOf, endOf}
+use Rattle.text.specs.Pieces.{indexOf, hasOf, beforeOf, afterOf, pieces, startOf, endOf}
 use Rattle.text.proofs.Parts.{part-tail, part-head, drop-within}
 use Rattle.text.proofs.Splitting.{index-within, pieces-step, start-within}
 

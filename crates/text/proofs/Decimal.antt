@@ -9,9 +9,8 @@ use native.Mathlib.Nat.{zero-add, pow-suc, div-lt-iff-lt-mul, div-add-mod', mod-
 use native.Mathlib.Omega.{arith}
 use lib.Dec.{ltb, lit<}
 use lib.ListN.{length, getD, length-append, List·getD-append}
-use borrow.Author.Tests.{le-leb, lt-ltb, le-ltb, ltb-true, ltb-false, ne-eqb}
+use borrow.Author.Tests.{le-leb, lt-ltb, le-ltb, ltb-true, ne-eqb}
 use Rattle.laws.proofs.Order.{lt-or-le}
-use Rattle.text.specs.declared.Numeral.{Numeral}
 use Rattle.text.specs.declared.Numeral.the-variants.{Is}
 use Rattle.text.specs.Numbers.{mostDigits, digitZero, digitNine, digitsFrom, leadingZero, numberOf, decimalFrom, decimalOf}
 

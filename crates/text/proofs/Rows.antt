@@ -1,17 +1,16 @@
 -- The search in a list of words that stand in rows.
 -- Assumes nothing.
 use Prim.Native.Nat.{ℕ, zero, suc, _+_, _-_, _*_, _/_, _≤_, _<_}
-use mathlib.Core.Path.{_≡_, refl, sym, _∙_, ap}
+use mathlib.Core.Path.{_≡_, refl, sym, _∙_}
 use mathlib.Core.Bool.{Bool, true, false, cond}
 use mathlib.Core.List.{List, [], _∷_, _++_}
 use native.Mathlib.Nat.{sub-zero, zero-mul, suc-mul, mul-one, mul-le-mul-left, mul-le-mul-right, div-mul-le-self}
 use native.Mathlib.Numerals.{add-one}
 use native.Mathlib.Omega.{arith}
 use lib.ListN.{length, take, drop, length-take, length-drop, length-append}
-use lib.Seq.{drop-drop, take-take, length-take-le}
-use Rattle.text.specs.declared.Found.the-variants.{At, Nothing}
+use lib.Seq.{drop-drop, take-take}
+use Rattle.text.specs.declared.Found.the-variants.{At}
 use Rattle.text.specs.declared.WordStep.{WordStep}
-use Rattle.text.specs.Part.{partOf}
 use Rattle.text.specs.Pieces.{space, indexOf, beforeOf}
 use Rattle.text.specs.Words.{opensOf, unread, rowsFrom, rowsOf, wordFrom}
 use Rattle.text.proofs.Parts.{part-head}

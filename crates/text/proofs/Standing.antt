@@ -11,11 +11,10 @@ use lib.Seq.{drop-drop}
 use Rattle.text.specs.declared.Found.{Found}
 use Rattle.text.specs.declared.Found.the-variants.{At, Nothing}
 use Rattle.text.specs.declared.WordStep.{WordStep}
-use Rattle.text.specs.Part.{partOf}
 use Rattle.text.specs.Pieces.{indexOf, hasOf, beforeOf, afterOf}
 use Rattle.text.specs.Words.{sameOf, opensOf, placeFrom, wordFrom, Within}
 use Rattle.text.proofs.Parts.{part-tail}
-use Rattle.text.proofs.Front.{free, allFree, all-free-parts, free-ended, opens-cut, opens-word, opens-ends}
+use Rattle.text.proofs.Front.{allFree, all-free-parts, free-ended, opens-cut, opens-word, opens-ends}
 
 -- the place of the word that stands at the front of a text
 unfoldable pub standing : List (List ℕ) → ℕ → List ℕ → ℕ → Found

@@ -44,7 +44,7 @@ unfoldable pub pieces : ℕ → List ℕ → List (List ℕ)
 pieces b [] = [] ∷ []
 pieces b (x ∷ s) = cond (eqb x b) ([] ∷ pieces b s) (joined x (pieces b s))
 
--- the place of the first b at a place or behind it, or the end of s where there is none
+-- the place of the first b at a place or behind it, or the end of s where there is none; a place behind the end itself
 abbrev pub nextOf : ℕ → List ℕ → ℕ → ℕ
 nextOf b s from = from + indexOf b (partOf s from (length s))
 

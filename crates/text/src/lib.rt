@@ -54,7 +54,7 @@ fn most(a: usize, b: usize) -> usize
 }
 
 // The place of the first b in s, or the length of s where there is none.
-pub fn first(s: &[u8], b: u8) -> usize
+fn first(s: &[u8], b: u8) -> usize
     ensures { λ r. ⌜ r ≡ indexOf b (now (s .entry)) ⌝ }
 {
     let mut i = 0;
@@ -67,7 +67,7 @@ pub fn first(s: &[u8], b: u8) -> usize
     i
 }
 
-// The place of the first b at a place of s or behind it, or the end of s where there is none.
+// The place of the first b at a place of s or behind it, or the end of s where there is none; a place behind the end itself.
 pub fn next(s: &[u8], b: u8, from: usize) -> usize
     ensures { λ r. ⌜ r ≡ nextOf b (now (s .entry)) from ⌝ }
 {
@@ -92,7 +92,7 @@ pub fn start(s: &[u8], b: u8, k: usize) -> usize
 }
 
 // Two texts are the same, byte for byte.
-pub fn same(s: &[u8], t: &[u8]) -> bool
+fn same(s: &[u8], t: &[u8]) -> bool
     ensures { λ r. ⌜ r ≡ sameOf (now (s .entry)) (now (t .entry)) ⌝ }
 {
     if s.len() != t.len() {
@@ -109,7 +109,7 @@ pub fn same(s: &[u8], t: &[u8]) -> bool
 }
 
 // The key stands in s at a place.
-pub fn stands(s: &[u8], at: usize, key: &[u8]) -> bool
+fn stands(s: &[u8], at: usize, key: &[u8]) -> bool
     ensures { λ r. ⌜ r ≡ opensOf (now (key .entry)) (drop at (now (s .entry))) ⌝ }
 {
     let from = least(at, s.len());

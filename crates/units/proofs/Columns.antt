@@ -1,6 +1,6 @@
 -- Laws of the soil columns.
 -- Assumes nothing.
-use Prim.Native.Nat.{ℕ, _≤_}
+use Prim.Native.Nat.{_≤_}
 use lib.Dec.{lit≤}
 use Rattle.units.specs.declared.Column.{Column}
 use Rattle.units.specs.declared.Column.the-variants.{A, B, C, CD, D}

@@ -3,10 +3,8 @@
 use Prim.Native.Nat.{ℕ}
 use mathlib.Core.Bool.{cond}
 use lib.Dec.{leb}
-use Rattle.refusal.specs.declared.Refusal.{Refusal}
 use Rattle.refusal.specs.declared.Refusal.the-variants.{AmountOutOfRange}
 use Rattle.refusal.specs.Refusal.{numberOf, granted}
-use Rattle.units.specs.declared.Depth.{Depth}
 use Rattle.units.specs.declared.DepthAnswer.{DepthAnswer}
 use Rattle.units.specs.declared.DepthAnswer.the-variants.{Granted, Refused}
 use Rattle.units.specs.Limits.{highestDepth}

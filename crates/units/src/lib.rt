@@ -1,6 +1,5 @@
 // 01, "Units, all whole numbers": acres, inches, cubic feet and pounds each keep their own kind.
 ghost use mathlib.Core.Path.{_≡_};
-ghost use Rattle.units.specs.Limits.{largest, mostArea, mostRate, mostPercent};
 ghost use Rattle.units.specs.Depths.{onGrid};
 ghost use Rattle.units.specs.Columns.{columnPlace};
 use refusal::Refusal;

@@ -2,13 +2,12 @@
 -- Assumes nothing.
 use Prim.Native.Nat.{ℕ, _+_, _*_, _≤_, _<_}
 use mathlib.Core.List.{List, [], _∷_}
-use mathlib.Core.Path.{_≡_, refl, sym, _∙_, ap}
+use mathlib.Core.Path.{_≡_, sym, _∙_, ap}
 use mir.Syntax.{w64}
 use mir.Val.{Fits}
 use native.Mathlib.Nat.{le-refl, le-trans, lt-of-le-of-lt, mul-le-mul, mul-le-mul-left}
 use native.Mathlib.Omega.{arith}
 use lib.Dec.{lit<, lit≤}
-use lib.ListN.{getD}
 use borrow.Author.Tests.{le-leb}
 use Rattle.laws.specs.Sum.{sumOf}
 use Rattle.refusal.specs.declared.Refusal.{Refusal}
@@ -19,7 +18,7 @@ use Rattle.units.specs.Limits.{mostArea, highestDepth}
 use Rattle.runoff.specs.declared.RunoffAnswer.{RunoffAnswer}
 use Rattle.runoff.specs.declared.RunoffAnswer.the-variants.{Granted, Refused}
 use Rattle.runoff.specs.declared.RunoffDepth.{RunoffDepth}
-use Rattle.runoff.specs.Runoff.{entryOf, runoffOf, runoffSheet, given}
+use Rattle.runoff.specs.Runoff.{entryOf, runoffOf, given}
 use Rattle.runoff.proofs.LineRule.{sheet-at, runoff-most}
 use Rattle.volume.specs.Areas.{areaAt, totalOf, soilsRunoff, volumeFrom, Six, OnSheet}
 use Rattle.volume.proofs.Gathering.{at-most}

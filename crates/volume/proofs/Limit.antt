@@ -1,7 +1,7 @@
 -- The loop that tries the total of six areas against the limit.
 -- Assumes nothing.
 use Prim.Native.Nat.{ℕ, _+_, _-_, _≤_, _<_}
-use mathlib.Core.Bool.{Bool, true, false}
+use mathlib.Core.Bool.{true, false}
 use mathlib.Core.List.{List}
 use mathlib.Core.Path.{_≡_, sym}
 use mir.Syntax.{w64}
@@ -11,7 +11,6 @@ use native.Mathlib.Omega.{arith}
 use lib.Dec.{lit<}
 use lib.ListN.{length, drop}
 use borrow.Author.Tests.{le-leb, lt-leb}
-use Rattle.laws.specs.Sum.{sumOf}
 use Rattle.laws.proofs.Sum.{sum-turn, sum-end}
 use Rattle.units.specs.declared.Area.{Area}
 use Rattle.units.specs.Limits.{mostArea}

@@ -1,10 +1,10 @@
 -- V from the six areas is V of the site.
 -- Assumes nothing.
-use Prim.Native.Nat.{ℕ, suc, _+_, _*_, _≤_, _<_}
+use Prim.Native.Nat.{ℕ, _+_, _*_}
 use mathlib.Core.List.{List, [], _∷_}
-use mathlib.Core.Path.{_≡_, refl, sym, _∙_, ap}
+use mathlib.Core.Path.{_≡_, refl, _∙_}
 use native.Mathlib.Omega.{arith}
-use lib.ListN.{length, getD, set, replicate, length-set}
+use lib.ListN.{length, set, replicate, length-set}
 use Rattle.laws.specs.Sum.{sumOf}
 use Rattle.units.specs.declared.Area.{Area}
 use Rattle.units.specs.declared.Column.{Column}
@@ -15,8 +15,8 @@ use Rattle.site.specs.declared.Cover.{Cover}
 use Rattle.site.specs.declared.Cover.the-variants.{Imp, Per}
 use Rattle.site.specs.declared.SubArea.{SubArea}
 use Rattle.site.specs.Soils.{runoffColumn}
-use Rattle.site.specs.Parts.{areaOf, under, imperviousOf, imperviousArea}
-use Rattle.volume.specs.Volume.{ifPervious, perviousRunoff, volumeOf}
+use Rattle.site.specs.Parts.{areaOf, under, imperviousArea}
+use Rattle.volume.specs.Volume.{ifPervious, volumeOf}
 use Rattle.volume.specs.Areas.{noArea, placeUnder, areaPlace, areaAt, withPart, gatheredFrom, areasOf, volumeFrom}
 
 -- What an area under a cover and on a column adds to V from the six areas, place by place.

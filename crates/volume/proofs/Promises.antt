@@ -2,7 +2,6 @@
 -- Assumes nothing.
 use mathlib.Core.List.{List, [], _∷_}
 use mathlib.Core.Path.{_≡_, refl}
-use Prim.Native.Nat.{ℕ}
 use Rattle.laws.specs.Sum.{sumOf}
 use Rattle.runoff.specs.Runoff.{runoffOf, byRows, fromRow}
 use Rattle.site.specs.declared.LandUse.the-variants.{Com}

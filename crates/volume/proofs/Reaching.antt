@@ -1,24 +1,23 @@
 -- The depth of a volume: the loop that finds it, and the paper's sentence about it.
 -- Assumes nothing.
-use Prim.Native.Nat.{ℕ, _+_, _-_, _*_, _≤_, _<_}
-use mathlib.Core.Bool.{Bool, true, false}
+use Prim.Native.Nat.{ℕ, _+_, _-_, _≤_, _<_}
+use mathlib.Core.Bool.{Bool}
 use mathlib.Core.List.{List}
-use mathlib.Core.Path.{_≡_, refl, sym, _∙_, ap}
+use mathlib.Core.Path.{_≡_}
 use native.Mathlib.Nat.{le-trans, mul-le-mul-left, mul-le-mul-right}
 use native.Mathlib.Omega.{arith}
 use lib.Dec.{leb, lit<}
 use borrow.Author.Tests.{le-leb, lt-leb, leb-true}
 use Rattle.laws.specs.First.{first, Once, middle}
-use Rattle.laws.proofs.First.{first-le, first-before, first-fails, passes-so-above}
+use Rattle.laws.proofs.First.{first-le, first-before, passes-so-above}
 use Rattle.laws.proofs.Bisection.{Halving, halving-starts, halving-up, halving-down}
 use Rattle.units.specs.declared.Area.{Area}
 use Rattle.units.specs.declared.Column.the-variants.{A, B, C, CD, D}
 use Rattle.units.specs.Limits.{highestDepth, gridDepths}
-use Rattle.runoff.specs.Runoff.{runoffOf}
 use Rattle.runoff.proofs.LineRule.{runoff-rises}
 use Rattle.site.specs.declared.SubArea.{SubArea}
 use Rattle.volume.specs.Volume.{volumeOf, depthOf}
-use Rattle.volume.specs.Areas.{areaAt, soilsRunoff, volumeFrom, notAbove}
+use Rattle.volume.specs.Areas.{areaAt, volumeFrom, notAbove}
 use Rattle.volume.proofs.Rising.{volume-rises, volume-zero, none-at-zero}
 
 -- V from six areas never falls with depth.

@@ -1,24 +1,23 @@
 -- V never falls with depth, rises strictly where there is impervious area, is 0 at depth 0, and stays within the limit.
 -- Assumes nothing.
-use Prim.Native.Nat.{ℕ, suc, _+_, _*_, _^_, _≤_, _<_}
+use Prim.Native.Nat.{ℕ, suc, _+_, _*_, _≤_, _<_}
 use mathlib.Core.List.{List, [], _∷_}
-use mathlib.Core.Path.{_≡_, refl, sym, _∙_, ap}
+use mathlib.Core.Path.{_≡_, refl}
 use native.Mathlib.Nat.{le-refl, mul-le-mul-left, mul-le-mul-right}
 use native.Mathlib.Omega.{arith}
 use lib.Dec.{lit≤}
 use Rattle.laws.specs.Sum.{sumOf}
 use Rattle.laws.proofs.Sum.{sum-mono}
-use Rattle.units.specs.declared.Area.{Area}
 use Rattle.units.specs.declared.Column.{Column}
 use Rattle.units.specs.declared.Column.the-variants.{A, B, C, CD, D}
-use Rattle.units.specs.Limits.{mostArea, largest, highestDepth, gridDepths}
+use Rattle.units.specs.Limits.{mostArea, largest, highestDepth}
 use Rattle.runoff.specs.Runoff.{runoffOf, byRows, fromRow}
 use Rattle.runoff.proofs.LineRule.{runoff-rises, runoff-most}
 use Rattle.site.specs.declared.Cover.{Cover}
 use Rattle.site.specs.declared.Cover.the-variants.{Imp, Per}
 use Rattle.site.specs.declared.SubArea.{SubArea}
 use Rattle.site.specs.Soils.{runoffColumn}
-use Rattle.site.specs.Parts.{areaOf, imperviousOf, imperviousArea, under, totalArea}
+use Rattle.site.specs.Parts.{areaOf, imperviousArea, under, totalArea}
 use Rattle.volume.specs.Volume.{ifPervious, perviousRunoff, volumeOf}
 
 if-mono : (cover : Cover) {m n : ℕ} → m ≤ n → ifPervious cover m ≤ ifPervious cover n

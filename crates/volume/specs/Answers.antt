@@ -6,7 +6,6 @@ use mathlib.Core.List.{List, [], _∷_}
 use lib.Dec.{leb}
 use Rattle.laws.specs.First.{first}
 use Rattle.laws.specs.Turn.{inTurn}
-use Rattle.refusal.specs.declared.Refusal.{Refusal}
 use Rattle.refusal.specs.declared.Refusal.the-variants.{TotalAreaPassed, AmountOutOfRange, PastLargest}
 use Rattle.refusal.specs.Refusal.{numberOf, granted}
 use Rattle.units.specs.declared.Area.{Area}
@@ -16,11 +15,9 @@ use Rattle.units.specs.declared.DepthAnswer.{DepthAnswer}
 use Rattle.units.specs.declared.DepthAnswer.the-variants as depth
 use Rattle.units.specs.Limits.{largest, highestDepth, gridDepths}
 use Rattle.site.specs.declared.Site.{Site}
-use Rattle.site.specs.declared.AreaAnswer.{AreaAnswer}
 use Rattle.site.specs.declared.AreaAnswer.the-variants as area
 use Rattle.site.specs.Parts.{partsOf}
 use Rattle.site.specs.Judging.{judged, afterJudging}
-use Rattle.volume.specs.declared.Areas.{Areas}
 use Rattle.volume.specs.declared.Gathered.{Gathered}
 use Rattle.volume.specs.declared.VolumeAnswer.{VolumeAnswer}
 use Rattle.volume.specs.declared.VolumeAnswer.the-variants.{Granted, Refused}

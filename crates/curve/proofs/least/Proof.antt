@@ -1,7 +1,6 @@
 -- `curve::least` meets its contract: the percents never fall with depth, so the grid is bisected; eight trials are enough for 201 depths.
 -- Assumes nothing.
 use borrow.Author.Needs.{needs}
-use native.Mathlib.Omega.{arith}
 use Rattle.curve.proofs.Searching.{Searching, search-starts, search-done, search-up, search-down, search-out}
 use Rattle.curve.proofs.least.Statement.{statement}
 use Rattle.curve.proofs.least.Tie as tie

@@ -3,7 +3,6 @@
 use borrow.Author.Needs.{needs}
 use native.Mathlib.Omega.{arith}
 use Rattle.units.proofs.Columns.{place-most}
-use Rattle.runoff.proofs.LineRule.{place-in-sheet}
 use Rattle.runoff.proofs.place_of.Statement.{statement}
 use Rattle.runoff.proofs.place_of.Tie as tie
 

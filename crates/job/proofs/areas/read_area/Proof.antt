@@ -34,8 +34,8 @@ slice-aggregate-word-at-3 c = search needs
 word-at-requires-3 : tie.Need-word-at-requires-3
 word-at-requires-3 c κs = search needs
 
-number-requires : tie.Need-number-requires
-number-requires c κs = search needs
+number-at-requires : tie.Need-number-at-requires
+number-at-requires c κs = search needs
 
 sub-area-requires : tie.Need-sub-area-requires
 unfolding rowsOf rowsFrom pieces joined partOf indexOf
@@ -53,7 +53,7 @@ returns c =
     let o = c .before .before in
     let v = o .before .before in
     let l = v .before .before in
-    area-read _ _ (l .before .before .behind .ensures) (l .word-at .ensures) (v .word-at2 .ensures) (o .word-at3 .ensures) (c .before .number .ensures) (c .sub-area .ensures)
+    area-read _ _ (l .before .before .behind .ensures) (l .word-at .ensures) (v .word-at2 .ensures) (o .word-at3 .ensures) (c .before .number-at .ensures) (c .sub-area .ensures)
 
 pub read-area-spec : {M : Type 1} → statement M
 read-area-spec =
@@ -67,6 +67,6 @@ read-area-spec =
     word-at-requires-2
     slice-aggregate-word-at-3
     word-at-requires-3
-    number-requires
+    number-at-requires
     sub-area-requires
     returns)
