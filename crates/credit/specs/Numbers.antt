@@ -5,12 +5,9 @@ use mathlib.Core.List.{List, [], _∷_, _++_}
 use mathlib.Core.Path.{_≡_}
 use lib.ListN.{replicate}
 use Rattle.units.specs.declared.Nutrient.the-variants.{N}
-use Rattle.site.specs.declared.LandUse.the-variants.{Com}
-use Rattle.site.specs.declared.Cover.the-variants.{Imp, Per}
-use Rattle.site.specs.declared.Soil.the-variants.{B, C, NoSoil}
-use Rattle.site.specs.declared.SubArea.{SubArea}
 use Rattle.site.specs.declared.Site.{Site}
 use Rattle.site.specs.Parts.{blank}
+use Rattle.volume.specs.Examples.{lot, yard}
 use Rattle.volume.specs.Volume.{volumeOf}
 use Rattle.sheet.specs.Examples.{depthsT, ratesT, percentsT}
 use Rattle.curve.specs.declared.Mode.the-variants.{Step, Mix}
@@ -21,18 +18,6 @@ use Rattle.credit.specs.Promises.{Credited, Sized}
 -- sheet T, lent
 abbrev pub sheetT : Sheet
 sheetT = lent depthsT ratesT percentsT
-
--- impervious 257
-abbrev pub lot : List SubArea
-lot = record { land = Com; cover = Imp; soil = NoSoil; area = record { 0 = 257 } } ∷ []
-
--- impervious 400, pervious C 200 and B 150
-abbrev pub yard : List SubArea
-yard =
-    record { land = Com; cover = Imp; soil = NoSoil; area = record { 0 = 400 } }
-    ∷ record { land = Com; cover = Per; soil = C; area = record { 0 = 200 } }
-    ∷ record { land = Com; cover = Per; soil = B; area = record { 0 = 150 } }
-    ∷ []
 
 abbrev pub yardSite : Site
 yardSite = record { parts = yard ++ replicate 29 blank; count = 3 }

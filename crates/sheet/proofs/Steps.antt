@@ -10,13 +10,9 @@ use native.Mathlib.Omega.{arith}
 use lib.Dec.{leb, eqb}
 use lib.ListN.{length, getD, List·getD-eq-default}
 use borrow.Author.Tests.{le-leb, lt-leb, eqb-false}
+use Rattle.laws.proofs.And.{and-false}
 use Rattle.laws.proofs.Order.{lt-or-le}
 use Rattle.sheet.specs.Sheet.{inStep, previous}
-
--- a conjunction whose second part fails
-and-false : (b : Bool) → (b && false) ≡ false
-and-false true = refl
-and-false false = refl
 
 -- above its most, or below the number before it, a number is out of step
 pub past-most : (gap most low x : ℕ) → most < x → inStep gap most low x ≡ false

@@ -10,6 +10,7 @@ use native.Mathlib.Omega.{arith}
 use lib.Dec.{ltb, lit<}
 use lib.ListN.{length, getD, length-append, List·getD-append}
 use borrow.Author.Tests.{le-leb, lt-ltb, le-ltb, ltb-true, ne-eqb}
+use Rattle.laws.proofs.And.{and-false}
 use Rattle.laws.proofs.Order.{lt-or-le}
 use Rattle.text.specs.declared.Numeral.the-variants.{Is}
 use Rattle.text.specs.Numbers.{mostDigits, digitZero, digitNine, digitsFrom, leadingZero, numberOf, decimalFrom, decimalOf}
@@ -81,10 +82,6 @@ digits-lead (suc k) n h l e =
 below-power : (n : ℕ) → n < 10 ^ suc n
 below-power zero = lit< tt
 below-power (suc n) = let h = below-power n in rw (pow-suc 10 (suc n)) (omega arith)
-
-and-false : (b : Bool) → b && false ≡ false
-and-false true = refl
-and-false false = refl
 
 no-leading-zero : (n : ℕ) → leadingZero (decimalOf n) ≡ false
 unfolding decimalOf

@@ -10,6 +10,8 @@ use lib.Dec.{eqb, ltb, leb·suc-suc}
 use lib.ListN.{length, getD, take, drop, length-take, length-drop, drop-of-length-le}
 use lib.Seq.{drop-drop, drop-cons, take-add, drop-at, length-take-le}
 use borrow.Author.Tests.{eq-eqb, ne-eqb, eqb-true, lt-ltb, le-ltb, ltb-true, ltb-false, not-true, not-false}
+use Rattle.laws.proofs.And.{and-false, and-true}
+use Rattle.laws.proofs.Order.{never-both}
 use Rattle.text.specs.Part.{partOf}
 use Rattle.text.specs.Pieces.{indexOf, hasOf, beforeOf, afterOf}
 use Rattle.text.specs.Words.{sameOf, opensOf, behindOf}
@@ -47,17 +49,13 @@ module _ (s key : List ℕ) (at : ℕ) where
   pub behind-none : {opened : Bool} → opened ≡ opensOf key (drop at s) → opened ≡ false → length s ≡ behindOf key s at
   behind-none e h = rw (← e, h)
 
--- no test is both passed and failed
-none : true ≡ false → ⊥
-none e = let z : _≡_ {A = ℕ} 0 1 = cc in omega arith
-
 -- two bytes compared, either way round
 other-byte : (x y b : ℕ) → eqb x b ≡ true → eqb y b ≡ false → eqb x y ≡ false
 other-byte x y b e f =
     ne-eqb x y (λ p.
     let q = eqb-true x b e in
     let g = eq-eqb y b (sym p ∙ q) in
-    none (sym g ∙ f))
+    never-both refl (sym g ∙ f))
 
 eqb-turned : (x y : ℕ) → eqb x y ≡ eqb y x
 eqb-turned x y = at (eqb x y) refl
@@ -67,7 +65,7 @@ eqb-turned x y = at (eqb x y) refl
     at false e =
         sym (ne-eqb y x (λ p.
         let g = eq-eqb x y (sym p) in
-        none (sym g ∙ e)))
+        never-both refl (sym g ∙ e)))
 
 -- none of some bytes is b
 unfoldable pub free : ℕ → List ℕ → Bool
@@ -83,7 +81,7 @@ unfolding free
 free-parts b x w h = at (eqb x b) refl h
   where
     at : (t : Bool) → eqb x b ≡ t → cond t false (free b w) ≡ true → (eqb x b ≡ false) × (free b w ≡ true)
-    at true e h = absurd (none (sym h))
+    at true e h = absurd (never-both refl (sym h))
     at false e h = (e, h)
 
 pub all-free-parts : (b : ℕ) (w : List ℕ) (ws : List (List ℕ)) → allFree b (w ∷ ws) ≡ true → (free b w ≡ true) × (allFree b ws ≡ true)
@@ -92,7 +90,7 @@ all-free-parts b w ws h = at (free b w) refl h
   where
     at : (t : Bool) → free b w ≡ t → cond t (allFree b ws) false ≡ true → (free b w ≡ true) × (allFree b ws ≡ true)
     at true e h = (e, h)
-    at false e h = absurd (none (sym h))
+    at false e h = absurd (never-both refl (sym h))
 
 pub free-ended : (c b : ℕ) (w : List ℕ) → free c w ≡ true → eqb b c ≡ false → free c (w ++ (b ∷ [])) ≡ true
 unfolding free
@@ -135,7 +133,7 @@ opens-cut c w t f =
 front-index : (c : ℕ) (w t : List ℕ) → free c w ≡ true → front w t ≡ true → indexOf c t ≡ length w + indexOf c (drop (length w) t)
 unfolding front indexOf
 front-index c [] t f h = omega arith
-front-index c (y ∷ w) [] f h = absurd (none (sym h))
+front-index c (y ∷ w) [] f h = absurd (never-both refl (sym h))
 front-index c (y ∷ w) (x ∷ t) f h = at (eqb x y) refl h (front-index c w t (free-parts c y w f .1))
   where
     at : (b : Bool) → eqb x y ≡ b → b && front w t ≡ true → (front w t ≡ true → indexOf c t ≡ length w + indexOf c (drop (length w) t)) → cond (eqb x c) 0 (suc (indexOf c t)) ≡ suc (length w) + indexOf c (drop (length w) t)
@@ -143,20 +141,12 @@ front-index c (y ∷ w) (x ∷ t) f h = at (eqb x y) refl h (front-index c w t (
         let same : x ≡ y = eqb-true x y e in
         let ih = more h in
         rw (same, free-parts c y w f .0) (omega arith)
-    at false e h more = absurd (none (sym h))
+    at false e h more = absurd (never-both refl (sym h))
 
 pub opens-index : (c : ℕ) (w t : List ℕ) → free c w ≡ true → opensOf w t ≡ true → indexOf c t ≡ length w + indexOf c (drop (length w) t)
 opens-index c w t f h = front-index c w t f (sym (opens-front w t) ∙ h)
 
 -- a text opens with a word and the byte that ends it where the word stands before that byte
-and-false : (b : Bool) → b && false ≡ false
-and-false true = refl
-and-false false = refl
-
-and-true : (b : Bool) → b && true ≡ b
-and-true true = refl
-and-true false = refl
-
 and-swapped : (a h r : Bool) → a && (h && r) ≡ h && (a && r)
 and-swapped true h r = refl
 and-swapped false true r = refl
@@ -193,7 +183,7 @@ opens-ends b w t f h = at (hasOf b t) refl (sym (opens-word b w t f) ∙ h)
         let n = length-take (indexOf b t) t in
         let i = index-within b t in
         omega arith
-    at false e g = absurd (none (sym g))
+    at false e g = absurd (never-both refl (sym g))
 
 -- In a text that is cut at its first c: a b that stands in what is left is the first of the text, and what stands behind it is what stands there in the text, cut likewise.
 record Cut (b c : ℕ) (t : List ℕ) : Type 0 where
@@ -202,11 +192,11 @@ record Cut (b c : ℕ) (t : List ℕ) : Type 0 where
 
 cut-has : (b c : ℕ) (t : List ℕ) → hasOf b (take (indexOf c t) t) ≡ true → Cut b c t
 unfolding indexOf
-cut-has b c [] h = absurd (none (sym h))
+cut-has b c [] h = absurd (never-both refl (sym h))
 cut-has b c (x ∷ t) h = at (eqb x c) refl (eqb x b) refl h (cut-has b c t)
   where
     at : (e : Bool) → eqb x c ≡ e → (f : Bool) → eqb x b ≡ f → hasOf b (take (cond e 0 (suc (indexOf c t))) (x ∷ t)) ≡ true → (hasOf b (take (indexOf c t) t) ≡ true → Cut b c t) → Cut b c (x ∷ t)
-    at true p f q h more = absurd (none (sym h))
+    at true p f q h more = absurd (never-both refl (sym h))
     at false p true q h more = record { index = rw (p, q) (omega arith); behind = rw (p, q) refl }
     at false p false q h more =
         let u = take (indexOf c t) t in
@@ -271,7 +261,7 @@ module _ (b c : ℕ) (t : List ℕ) (h : hasOf b (beforeOf c t) ≡ true) where
 -- a word with one more byte
 front-not : (b : ℕ) (w t : List ℕ) → front w t ≡ false → front (w ++ (b ∷ [])) t ≡ false
 unfolding front
-front-not b [] t h = absurd (none h)
+front-not b [] t h = absurd (never-both refl h)
 front-not b (y ∷ w) [] h = refl
 front-not b (y ∷ w) (x ∷ t) h = at (eqb x y) h (front-not b w t)
   where
@@ -282,12 +272,12 @@ front-not b (y ∷ w) (x ∷ t) h = at (eqb x y) h (front-not b w t)
 front-more : (b : ℕ) (w t : List ℕ) → front w t ≡ true → front (w ++ (b ∷ [])) t ≡ front (b ∷ []) (drop (length w) t)
 unfolding front
 front-more b [] t h = refl
-front-more b (y ∷ w) [] h = absurd (none (sym h))
+front-more b (y ∷ w) [] h = absurd (never-both refl (sym h))
 front-more b (y ∷ w) (x ∷ t) h = at (eqb x y) h (front-more b w t)
   where
     at : (e : Bool) → e && front w t ≡ true → (front w t ≡ true → front (w ++ (b ∷ [])) t ≡ front (b ∷ []) (drop (length w) t)) → e && front (w ++ (b ∷ [])) t ≡ front (b ∷ []) (drop (length w) t)
     at true h more = more h
-    at false h more = absurd (none (sym h))
+    at false h more = absurd (never-both refl (sym h))
 
 module _ (s w : List ℕ) (at b : ℕ) {o : Bool} (e : o ≡ opensOf w (drop at s)) where
   opened : (c : Bool) → o ≡ c → front w (drop at s) ≡ c

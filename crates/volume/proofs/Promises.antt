@@ -4,12 +4,9 @@ use mathlib.Core.List.{List, [], _∷_}
 use mathlib.Core.Path.{_≡_, refl}
 use Rattle.laws.specs.Sum.{sumOf}
 use Rattle.runoff.specs.Runoff.{runoffOf, byRows, fromRow}
-use Rattle.site.specs.declared.LandUse.the-variants.{Com}
-use Rattle.site.specs.declared.Cover.the-variants.{Imp, Per}
-use Rattle.site.specs.declared.Soil.the-variants.{B, C, NoSoil}
-use Rattle.site.specs.declared.SubArea.{SubArea}
 use Rattle.site.proofs.Promises as site
 use Rattle.volume.specs.Volume.{volumeOf}
+use Rattle.volume.specs.Examples.{lot, yard}
 use Rattle.volume.specs.Answers.{volumeAnswer, depthAnswer}
 use Rattle.volume.specs.Promises.{StartsAtZero, NeverFalls, RisesStrictly, Fits, LargestDepth, PastCountUnread}
 use Rattle.volume.proofs.Rising.{volume-zero, volume-rises, volume-strict, volume-fits}
@@ -36,18 +33,6 @@ past-count-unread s t r =
     let e = site.past-count-unread s t r .0 in
     let p = r .parts in
     (λ d. simp (e, p), λ v. simp (e, p))
-
--- impervious 257
-abbrev pub lot : List SubArea
-lot = record { land = Com; cover = Imp; soil = NoSoil; area = record { 0 = 257 } } ∷ []
-
--- impervious 400, pervious C 200 and B 150
-abbrev pub yard : List SubArea
-yard =
-    record { land = Com; cover = Imp; soil = NoSoil; area = record { 0 = 400 } }
-    ∷ record { land = Com; cover = Per; soil = C; area = record { 0 = 200 } }
-    ∷ record { land = Com; cover = Per; soil = B; area = record { 0 = 150 } }
-    ∷ []
 
 -- "Impervious 257, depth 36: V = 335,847,600." "Impervious 400, pervious C 200 and B 150: V(71) = 1,100,343,750."
 pub paper-numbers : (volumeOf lot 36 ∷ volumeOf yard 71 ∷ []) ≡ (335_847_600 ∷ 1_100_343_750 ∷ [])

@@ -2,3 +2,4 @@ pub mod Volume
 pub mod Areas
 pub mod Answers
 pub mod Promises
+pub mod Examples
