@@ -57,7 +57,7 @@ accepted sheet wanted n s mode r granting = told (judged s) refl granting
 
 -- Where a sheet is there and accepted, its percents decide.
 sheet-works : (sheet : Sheet) (wanted : Wanted) (n : Nutrient) (parts : List SubArea) (mode : Mode) (r : ℕ)
-    → isThere sheet n ≡ true → curve.Granted (depthsIn sheet) (ratesIn sheet n) (percentsIn sheet n) r
+    → isThere sheet n ≡ true → curve.Usable (depthsIn sheet) (ratesIn sheet n) (percentsIn sheet n) r
     → bySheet sheet wanted n parts mode r ≡ onPercents wanted n parts (percentOn sheet n mode r)
 unfolding onSheet
 sheet-works (lent ds rs ps) wanted n parts mode r t p = rw (sheet-admitted ds rs ps mode r p)

@@ -65,43 +65,43 @@ module _ (ds rs ps : List ℕ) (mode : Mode) (r : ℕ) (onward : Curves → Cred
       let p = granted-pass (onward (curvesOf rs mode r)) rateTests (rw e at g) .0 in
       (leb-true r (fastestTaken rs) (p .0), leb-true (getD rs 0 0) r (p .1 .0))
 
-  sheet-passed : given (onCurves onward (admissionOf ds rs ps mode r)) .answer ≡ granted → curve.Granted ds rs ps r
+  sheet-passed : given (onCurves onward (admissionOf ds rs ps mode r)) .answer ≡ granted → curve.Usable ds rs ps r
   unfolding admissionOf
   sheet-passed = told (verdictOf ds rs ps) refl
     where
       told : (x : Verdict) → verdictOf ds rs ps ≡ x → given (onCurves onward (judgedFirst x (rated rs mode r))) .answer ≡ granted
-          → curve.Granted ds rs ps r
+          → curve.Usable ds rs ps r
       told Fine f g =
           let p = rate-passed g in
           record { fine = f; taken = p .0; slowest = p .1 }
       told (Unfit list place) f g = absurd (refusal-not-granted UnfitSheet g)
 
 -- and is worked out by the curves of the site rate.
-pub sheet-admitted : (ds rs ps : List ℕ) (mode : Mode) (r : ℕ) → curve.Granted ds rs ps r
+pub sheet-admitted : (ds rs ps : List ℕ) (mode : Mode) (r : ℕ) → curve.Usable ds rs ps r
     → admissionOf ds rs ps mode r ≡ admission.Admitted (curvesOf rs mode r)
 sheet-admitted ds rs ps mode r p = sym (fine-rated ds rs ps refl mode r (p .fine) (rate-taken rs mode refl (p .taken) (p .slowest) refl))
 
 -- what is wanted of sub-areas, by the percents of a sheet
 abbrev pub onPercents : Wanted → Nutrient → List SubArea → (ℕ → ℕ) → CreditAnswer
-onPercents wanted n parts percents = worked wanted (loadOf (rates.ratesOf n) parts) (imperviousArea parts) (volumeOf parts) percents
+onPercents wanted n parts percents = worked wanted (loadOf (rates.exportRates n) parts) (imperviousArea parts) (volumeOf parts) percents
 
 -- A site, a sheet and a rate that are refused nothing but an amount: whatever is wanted, its answer is worked out by the percents.
 pub record Open (sheet : Sheet) (n : Nutrient) (s : Site) (mode : Mode) (r : ℕ) : Type 0 where
-  pub accepted : curve.Granted (depthsIn sheet) (ratesIn sheet n) (percentsIn sheet n) r
-  pub within : Within (loadOf (rates.ratesOf n) (partsOf s)) (imperviousArea (partsOf s)) (volumeOf (partsOf s))
+  pub accepted : curve.Usable (depthsIn sheet) (ratesIn sheet n) (percentsIn sheet n) r
+  pub within : Within (loadOf (rates.exportRates n) (partsOf s)) (imperviousArea (partsOf s)) (volumeOf (partsOf s))
   pub works : (wanted : Wanted) → answerOf sheet wanted n s mode r ≡ onPercents wanted n (partsOf s) (percentOn sheet n mode r)
 
 module _ (n : Nutrient) (parts : List SubArea) (mode : Mode) (r : ℕ) where
   -- What is wanted has no part in the tests of a sheet.
   lists-open : (ds rs ps : List ℕ) (wanted : Wanted) → given (onParts wanted n parts ds rs ps mode r) .answer ≡ granted
-      → curve.Granted ds rs ps r × ((other : Wanted) → onParts other n parts ds rs ps mode r ≡ onPercents other n parts (percentOf ds rs ps mode r))
+      → curve.Usable ds rs ps r × ((other : Wanted) → onParts other n parts ds rs ps mode r ≡ onPercents other n parts (percentOf ds rs ps mode r))
   unfolding onSheet
   lists-open ds rs ps wanted g =
       let p = sheet-passed ds rs ps mode r _ g in
       (p, λ other. rw (sheet-admitted ds rs ps mode r p))
 
   sheet-opens : (sheet : Sheet) (wanted : Wanted) → given (bySheet sheet wanted n parts mode r) .answer ≡ granted
-      → curve.Granted (depthsIn sheet) (ratesIn sheet n) (percentsIn sheet n) r
+      → curve.Usable (depthsIn sheet) (ratesIn sheet n) (percentsIn sheet n) r
       × ((other : Wanted) → bySheet sheet other n parts mode r ≡ onPercents other n parts (percentOn sheet n mode r))
   sheet-opens (lent ds rs ps) wanted g = lists-open ds rs ps wanted g
   sheet-opens (published practice) wanted g =
@@ -113,7 +113,7 @@ module _ (n : Nutrient) (parts : List SubArea) (mode : Mode) (r : ℕ) where
 
   -- Crediting and sizing ask alike for impervious area, and for a load and a V(200) within 10^13.
   work-within : (wanted : Wanted) (percents : ℕ → ℕ) → given (onPercents wanted n parts percents) .answer ≡ granted
-      → Within (loadOf (rates.ratesOf n) parts) (imperviousArea parts) (volumeOf parts)
+      → Within (loadOf (rates.exportRates n) parts) (imperviousArea parts) (volumeOf parts)
   work-within (Credit v) percents g = credit-passed _ _ _ percents (v .0) g .0
   work-within (Size target) percents g = size-passed _ _ _ percents (target .0) g .0
 
@@ -141,7 +141,7 @@ module _ {sheet : Sheet} {n : Nutrient} {s : Site} {mode : Mode} {r : ℕ} (o : 
 
   pub credit-is : (v : ℕ) → v ≤ largest
       → answerOf sheet (credit v) n s mode r
-      ≡ Granted (figuresOf (loadOf (rates.ratesOf n) (partsOf s)) (depthOf (partsOf s) v) (percentOn sheet n mode r (depthOf (partsOf s) v)) v)
+      ≡ Granted (figuresOf (loadOf (rates.exportRates n) (partsOf s)) (depthOf (partsOf s) v) (percentOn sheet n mode r (depthOf (partsOf s) v)) v)
   unfolding depthOf
   credit-is v h = o .works (credit v) ∙ credit-works _ _ _ (percentOn sheet n mode r) v (o .within) h
 
@@ -158,7 +158,7 @@ module _ {sheet : Sheet} {n : Nutrient} {s : Site} {mode : Mode} {r : ℕ} (o : 
 
     pub size-is : target ≤ percentOn sheet n mode r highestDepth
         → answerOf sheet (size target) n s mode r
-        ≡ Granted (figuresOf (loadOf (rates.ratesOf n) (partsOf s)) depth (percentOn sheet n mode r depth) (volumeOf (partsOf s) depth))
+        ≡ Granted (figuresOf (loadOf (rates.exportRates n) (partsOf s)) depth (percentOn sheet n mode r depth) (volumeOf (partsOf s) depth))
     size-is l = o .works (size target) ∙ size-works _ _ _ (percentOn sheet n mode r) target (o .within) h l
 
     pub size-unreachable : percentOn sheet n mode r highestDepth < target → answerOf sheet (size target) n s mode r ≡ Refused TargetUnreachable

@@ -45,7 +45,7 @@ more-storage-never-less sheet n s mode r v w h g k =
     let o : Open sheet n s mode r = granted-opens (credit v) g in
     let p = percent-mono o (depthOf (partsOf s) v) (depthOf (partsOf s) w) (depth-mono (partsOf s) v w h) in
     rw (credit-is o v (credit-within o v g), credit-is o w (credit-within o w k))
-    (p, removed-mono (loadOf (rates.ratesOf n) (partsOf s)) _ _ p)
+    (p, removed-mono (loadOf (rates.exportRates n) (partsOf s)) _ _ p)
 
 pub higher-target-never-smaller : HigherTargetNeverSmaller
 higher-target-never-smaller sheet n s mode r t u h g k =
@@ -70,7 +70,7 @@ module _ {sheet : Sheet} {n : Nutrient} {s : Site} {mode : Mode} {r : ℕ} (o : 
   -- with the percent of that depth.
   volume-is : (d : ℕ) → d ≤ highestDepth
       → answerOf sheet (credit (volumeOf (partsOf s) d)) n s mode r
-      ≡ Granted (figuresOf (loadOf (rates.ratesOf n) (partsOf s)) d (percentOn sheet n mode r d) (volumeOf (partsOf s) d))
+      ≡ Granted (figuresOf (loadOf (rates.exportRates n) (partsOf s)) d (percentOn sheet n mode r d) (volumeOf (partsOf s) d))
   volume-is d h =
       credit-is o (volumeOf (partsOf s) d) (volume-within d h) ∙ rw (depth-back (partsOf s) d (o .within .some-impervious) h)
 

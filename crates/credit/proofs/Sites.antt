@@ -33,7 +33,7 @@ use Rattle.volume.proofs.Products.{volume-gathered, impervious-gathered}
 use Rattle.curve.specs.declared.Mode.{Mode}
 use Rattle.published.specs.declared.Place.{Place}
 use Rattle.published.specs.declared.Place.the-variants as place
-use Rattle.published.specs.Published.{placeOf, allSheets, depthsIn, between}
+use Rattle.published.specs.Published.{sheetPlace, allSheets, listDepths, stretch}
 use Rattle.published.proofs.Places.{found-published, found-rates, found-percents, depths-in, refused-why, refused-published}
 use Rattle.credit.specs.declared.Wanted.{Wanted}
 use Rattle.credit.specs.declared.CreditAnswer.{CreditAnswer}
@@ -43,30 +43,30 @@ use Rattle.credit.specs.declared.Survey.{Survey}
 use Rattle.credit.specs.Working.{Work, onPractice, surveyedBy, surveyed}
 
 -- No rate of the permit is larger than a table can hold.
-rate-most : (n : Nutrient) (k : ℕ) → getD (rates.ratesOf n) k 0 ≤ rates.tableMost
+rate-most : (n : Nutrient) (k : ℕ) → getD (rates.exportRates n) k 0 ≤ rates.tableMost
 rate-most P k =
-    ⊎-elim (λ (h : k < 16). leb-true _ _ (carry (λ i x. leb x rates.tableMost) (rates.ratesOf P) refl k h))
-    (λ (h : 16 ≤ k). rw (List·getD-eq-default (rates.ratesOf P) 0 h) (omega arith))
+    ⊎-elim (λ (h : k < 16). leb-true _ _ (carry (λ i x. leb x rates.tableMost) (rates.exportRates P) refl k h))
+    (λ (h : 16 ≤ k). rw (List·getD-eq-default (rates.exportRates P) 0 h) (omega arith))
     (lt-or-le k 16)
 rate-most N k =
-    ⊎-elim (λ (h : k < 16). leb-true _ _ (carry (λ i x. leb x rates.tableMost) (rates.ratesOf N) refl k h))
-    (λ (h : 16 ≤ k). rw (List·getD-eq-default (rates.ratesOf N) 0 h) (omega arith))
+    ⊎-elim (λ (h : k < 16). leb-true _ _ (carry (λ i x. leb x rates.tableMost) (rates.exportRates N) refl k h))
+    (λ (h : 16 ≤ k). rw (List·getD-eq-default (rates.exportRates N) 0 h) (omega arith))
     (lt-or-le k 16)
 
 -- No load of a site passes 10^13.
-load-most : (n : Nutrient) (ps : List SubArea) → totalArea ps ≤ mostArea → loads.loadOf (rates.ratesOf n) ps ≤ largest
+load-most : (n : Nutrient) (ps : List SubArea) → totalArea ps ≤ mostArea → loads.loadOf (rates.exportRates n) ps ≤ largest
 load-most n ps h =
-    let m = sum-scaled rates.tableMost (loads.partLoad (rates.ratesOf n)) areaOf
+    let m = sum-scaled rates.tableMost (loads.partLoad (rates.exportRates n)) areaOf
     (λ p. let q = mul-le-mul-left (areaOf p) (rate-most n (rates.ratePlace p)) in omega arith) ps in
     omega arith
 
 -- The record is judged before all else; what the walk over it found is what the definitions say of its sub-areas.
-module _ (s : Site) (n : Nutrient) (g : Survey) (e : g ≡ surveyed (rates.ratesOf n) s) where
+module _ (s : Site) (n : Nutrient) (g : Survey) (e : g ≡ surveyed (rates.exportRates n) s) where
   answer-told : g .answer ≡ judged s
   unfolding surveyed
   answer-told = ap (λ (v : Survey). v .answer) e ∙ told (judged s)
     where
-      told : (x : AreaAnswer) → surveyedBy (rates.ratesOf n) (partsOf s) x .answer ≡ x
+      told : (x : AreaAnswer) → surveyedBy (rates.exportRates n) (partsOf s) x .answer ≡ x
       told (area.Granted total) = refl
       told (area.Refused why) = refl
 
@@ -83,7 +83,7 @@ module _ (s : Site) (n : Nutrient) (g : Survey) (e : g ≡ surveyed (rates.rates
     unfolding surveyed
     areas-told = rw fine at (ap (λ (v : Survey). v .areas .of) e)
 
-    load-told : g .load .0 ≡ loads.loadOf (rates.ratesOf n) (partsOf s)
+    load-told : g .load .0 ≡ loads.loadOf (rates.exportRates n) (partsOf s)
     unfolding surveyed
     load-told = rw fine at (ap (λ (v : Survey). v .load .0) e)
 
@@ -119,9 +119,9 @@ pub as-wanted : (wanted asked : Wanted) (load : ℕ) (xs : List Area) (ds rs ps 
 as-wanted wanted asked load xs ds rs ps mode r answer w h = rw w h
 
 -- 4 comes first on a published practice; then it is its sheet's answer.
-module _ (practice : ℕ) (n : Nutrient) (load : ℕ) (xs : List Area) (mode : Mode) (rate : ℕ) (wanted : Wanted) {at : Place} (told : at ≡ placeOf practice n) where
+module _ (practice : ℕ) (n : Nutrient) (load : ℕ) (xs : List Area) (mode : Mode) (rate : ℕ) (wanted : Wanted) {at : Place} (told : at ≡ sheetPlace practice n) where
   pub table-answers : {r p e : ℕ} (all : List ℕ) (answer : CreditAnswer) → at ≡ place.At r p e → all ≡ allSheets
-      → answer ≡ onSheet wanted load (areaAt xs 0) (volumeFrom xs) (depthsIn all) (between all r p) (between all p e) mode rate
+      → answer ≡ onSheet wanted load (areaAt xs 0) (volumeFrom xs) (listDepths all) (stretch all r p) (stretch all p e) mode rate
       → answer ≡ onPractice wanted load xs practice n mode rate
   table-answers all answer found is h =
       rw (found-published practice n told found)

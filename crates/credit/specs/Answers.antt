@@ -58,7 +58,7 @@ onSheet wanted load impervious volumeAt ds rs ps mode r =
 -- the same for a list of sub-areas, with its own load, impervious area and V
 abbrev pub onParts : Wanted → Nutrient → List SubArea → List ℕ → List ℕ → List ℕ → Mode → ℕ → CreditAnswer
 onParts wanted n parts ds rs ps mode r =
-    onSheet wanted (loadOf (rates.ratesOf n) parts) (imperviousArea parts) (volumeOf parts) ds rs ps mode r
+    onSheet wanted (loadOf (rates.exportRates n) parts) (imperviousArea parts) (volumeOf parts) ds rs ps mode r
 
 -- a practice that has no published sheet is refused 4
 abbrev pub bySheet : Sheet → Wanted → Nutrient → List SubArea → Mode → ℕ → CreditAnswer

@@ -63,9 +63,9 @@ pub record Accepted (sheet : Sheet) (n : Nutrient) (s : Site) (r : ℕ) : Type 0
   pub total : Area
   pub fine : judged s ≡ area.Granted total
   pub there : isThere sheet n ≡ true
-  pub rated : curve.Granted (depthsIn sheet) (ratesIn sheet n) (percentsIn sheet n) r
+  pub rated : curve.Usable (depthsIn sheet) (ratesIn sheet n) (percentsIn sheet n) r
   pub impervious : 0 < imperviousArea (partsOf s)
-  pub load-fits : loadOf (rates.ratesOf n) (partsOf s) ≤ largest
+  pub load-fits : loadOf (rates.exportRates n) (partsOf s) ≤ largest
   pub volume-fits : volumeOf (partsOf s) highestDepth ≤ largest
 
 -- Demand 2, what is granted: a credit exactly where all is accepted and the volume is within the limit,
@@ -86,7 +86,7 @@ abbrev pub CreditIsByTheTables : Type 0
 CreditIsByTheTables =
     (sheet : Sheet) (n : Nutrient) (s : Site) (mode : Mode) (r v : ℕ)
     → Credited sheet n s mode r v .answer ≡ granted
-    → (Credited sheet n s mode r v .load ≡ loadOf (rates.ratesOf n) (partsOf s))
+    → (Credited sheet n s mode r v .load ≡ loadOf (rates.exportRates n) (partsOf s))
     × (Credited sheet n s mode r v .depth ≡ depthOf (partsOf s) v)
     × (Credited sheet n s mode r v .percent ≡ percentOn sheet n mode r (depthOf (partsOf s) v))
     × (Credited sheet n s mode r v .volume ≡ v)
@@ -97,7 +97,7 @@ abbrev pub SizeIsByTheTables : Type 0
 SizeIsByTheTables =
     (sheet : Sheet) (n : Nutrient) (s : Site) (mode : Mode) (r target : ℕ)
     → Sized sheet n s mode r target .answer ≡ granted
-    → (Sized sheet n s mode r target .load ≡ loadOf (rates.ratesOf n) (partsOf s))
+    → (Sized sheet n s mode r target .load ≡ loadOf (rates.exportRates n) (partsOf s))
     × (Sized sheet n s mode r target .depth ≡ depthReaching (percentOn sheet n mode r) target)
     × (Sized sheet n s mode r target .percent ≡ percentOn sheet n mode r (Sized sheet n s mode r target .depth))
     × (Sized sheet n s mode r target .volume ≡ volumeOf (partsOf s) (Sized sheet n s mode r target .depth))

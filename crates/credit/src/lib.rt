@@ -5,8 +5,8 @@ ghost use Rattle.units.specs.Limits.{largest, mostPercent, highestDepth};
 ghost use Rattle.volume.specs.Areas.{areaAt, volumeFrom};
 ghost use Rattle.volume.specs.Answers.{depthOn};
 ghost use Rattle.credit.specs.Credit.{figuresOf, creditBy, sizedAt};
-ghost use Rattle.published.specs.Published.{depthsIn, between, Standing};
-ghost use Rattle.loads.specs.Rates.{ratesOf};
+ghost use Rattle.published.specs.Published.{listDepths, stretch, Standing};
+ghost use Rattle.loads.specs.Rates.{exportRates};
 ghost use Rattle.credit.specs.Answers.{Sheet, onSheet, answerOf};
 ghost use Rattle.credit.specs.Working.{Work, depthIn, onPractice, unsurveyed, surveyed};
 use curve::Mode;
@@ -237,7 +237,7 @@ fn on_table(
 ) -> CreditAnswer
     requires { ⌜ Work (areas .of) (load .0) 0 ⌝ }
     requires { ⌜ Standing (now all) rates percents end ⌝ }
-    ensures { λ r. ⌜ r ≡ onSheet wanted (load .0) (areaAt (areas .of) 0) (volumeFrom (areas .of)) (depthsIn (now (all .entry))) (between (now (all .entry)) rates percents) (between (now (all .entry)) percents end) mode (rate .0) ⌝ }
+    ensures { λ r. ⌜ r ≡ onSheet wanted (load .0) (areaAt (areas .of) 0) (volumeFrom (areas .of)) (listDepths (now (all .entry))) (stretch (now (all .entry)) rates percents) (stretch (now (all .entry)) percents end) mode (rate .0) ⌝ }
 {
     on_sheet(
         areas,
@@ -335,7 +335,7 @@ fn walk_under(site: Site, rates: &[u16; 16]) -> Survey
 
 // The walk under the permit's table.
 fn walk(site: Site, nutrient: Nutrient) -> Survey
-    ensures { λ r. ⌜ r ≡ surveyed (ratesOf nutrient) site ⌝ }
+    ensures { λ r. ⌜ r ≡ surveyed (exportRates nutrient) site ⌝ }
 {
     let table = loads::rates(nutrient);
     walk_under(site, &table)

@@ -15,14 +15,14 @@ use Rattle.sheet.proofs.Rules.{fine-rules}
 use Rattle.curve.specs.declared.Mode.{Mode}
 use Rattle.curve.specs.Curve.{curvesOf, exactOf, percentOf}
 use Rattle.curve.specs.Ready.{Rated, Ready}
-use Rattle.curve.specs.Promises.{Granted, NeverFallsWithDepth, AtMostAll, NeverFallsWithRate, leastOf, FindsTheLeast}
+use Rattle.curve.specs.Promises.{Usable, NeverFallsWithDepth, AtMostAll, NeverFallsWithRate, leastOf, FindsTheLeast}
 use Rattle.curve.proofs.Answering.{rate-rated}
 use Rattle.curve.proofs.Choices.{neighbours}
 use Rattle.curve.proofs.Faster.{exact-faster}
 use Rattle.curve.proofs.Parts.{in-segment}
 use Rattle.curve.proofs.Rising.{under-some, percent-rises, percent-most}
 
-module _ {ds rs ps : List ℕ} {r : ℕ} (g : Granted ds rs ps r) where
+module _ {ds rs ps : List ℕ} {r : ℕ} (g : Usable ds rs ps r) where
   -- A granted sheet keeps the rules, and a granted rate is reached by it.
   pub granted-rules : Rules ds rs ps
   granted-rules = fine-rules ds rs ps (g .fine)

@@ -24,7 +24,7 @@ use Rattle.curve.specs.declared.PercentAnswer.{PercentAnswer}
 use Rattle.curve.specs.declared.PercentAnswer.the-variants as percent
 use Rattle.curve.specs.declared.Reached.{Reached}
 use Rattle.curve.specs.declared.Reached.the-variants as reach
-use Rattle.curve.specs.Curve.{curvesOf, exactAt, percentAt, rounded}
+use Rattle.curve.specs.Curve.{curvesOf, exactAt, percentAt, roundedDown}
 
 -- the fastest site rate that a sheet takes: 0 where it is without rates
 unfoldable pub fastestTaken : List ℕ → ℕ
@@ -56,7 +56,7 @@ exactAnswer ds rs ps mode r d = exactFrom ds ps d (admissionOf ds rs ps mode r)
 
 -- the percent is the exact one rounded down
 abbrev pub roundedAnswer : ExactAnswer → PercentAnswer
-roundedAnswer (exact.Granted f) = percent.Granted (record { 0 = rounded f })
+roundedAnswer (exact.Granted f) = percent.Granted (record { 0 = roundedDown f })
 roundedAnswer (exact.BadSheet list place) = percent.BadSheet list place
 roundedAnswer (exact.Refused r) = percent.Refused r
 

@@ -59,11 +59,11 @@ abbrev pub exactOf : List ℕ → List ℕ → List ℕ → Mode → ℕ → ℕ
 exactOf ds rs ps mode r d = exactAt ds ps (curvesOf rs mode r) d
 
 -- the fraction is rounded down once
-abbrev pub rounded : Fraction → ℕ
-rounded f = f .over / f .under
+abbrev pub roundedDown : Fraction → ℕ
+roundedDown f = f .over / f .under
 
 abbrev pub percentAt : List ℕ → List ℕ → Curves → ℕ → ℕ
-percentAt ds ps c d = rounded (exactAt ds ps c d)
+percentAt ds ps c d = roundedDown (exactAt ds ps c d)
 
 -- the percent of a sheet at a site rate and a depth
 abbrev pub percentOf : List ℕ → List ℕ → List ℕ → Mode → ℕ → ℕ → ℕ

@@ -12,7 +12,7 @@ use Rattle.curve.specs.Curve.{curvesOf, percentOf}
 use Rattle.curve.specs.Answers.{fastestTaken, leastDepth}
 
 -- neither 5, 6 nor 7 is given
-pub record Granted (ds rs ps : List ℕ) (r : ℕ) : Type 0 where
+pub record Usable (ds rs ps : List ℕ) (r : ℕ) : Type 0 where
   pub fine : verdictOf ds rs ps ≡ Fine
   pub taken : r ≤ fastestTaken rs
   pub slowest : getD rs 0 0 ≤ r
@@ -20,11 +20,11 @@ pub record Granted (ds rs ps : List ℕ) (r : ℕ) : Type 0 where
 -- The percent never falls with depth.
 abbrev pub NeverFallsWithDepth : Type 0
 NeverFallsWithDepth =
-    (ds rs ps : List ℕ) (mode : Mode) (r d e : ℕ) → Granted ds rs ps r → d ≤ e → percentOf ds rs ps mode r d ≤ percentOf ds rs ps mode r e
+    (ds rs ps : List ℕ) (mode : Mode) (r d e : ℕ) → Usable ds rs ps r → d ≤ e → percentOf ds rs ps mode r d ≤ percentOf ds rs ps mode r e
 
 -- It is at most 100 percent.
 abbrev pub AtMostAll : Type 0
-AtMostAll = (ds rs ps : List ℕ) (mode : Mode) (r d : ℕ) → Granted ds rs ps r → percentOf ds rs ps mode r d ≤ mostPercent
+AtMostAll = (ds rs ps : List ℕ) (mode : Mode) (r d : ℕ) → Usable ds rs ps r → percentOf ds rs ps mode r d ≤ mostPercent
 
 -- no percent of the sheet falls as its rate rises
 abbrev pub FasterIsNoLess : List ℕ → List ℕ → List ℕ → Type 0
@@ -34,7 +34,7 @@ FasterIsNoLess ds rs ps =
 -- Where that is so, the percent never falls with the site rate.
 abbrev pub NeverFallsWithRate : Type 0
 NeverFallsWithRate =
-    (ds rs ps : List ℕ) → FasterIsNoLess ds rs ps → (mode : Mode) (r q d : ℕ) → Granted ds rs ps r → Granted ds rs ps q → r ≤ q
+    (ds rs ps : List ℕ) → FasterIsNoLess ds rs ps → (mode : Mode) (r q d : ℕ) → Usable ds rs ps r → Usable ds rs ps q → r ≤ q
     → percentOf ds rs ps mode r d ≤ percentOf ds rs ps mode q d
 
 -- the depth that is found for a target
@@ -50,5 +50,5 @@ pub record IsLeast (percent : ℕ → ℕ) (target d : ℕ) : Type 0 where
 -- Where the target is not above the percent at depth 200, the depth that is found is the least.
 abbrev pub FindsTheLeast : Type 0
 FindsTheLeast =
-    (ds rs ps : List ℕ) (mode : Mode) (r target : ℕ) → Granted ds rs ps r → target ≤ percentOf ds rs ps mode r highestDepth
+    (ds rs ps : List ℕ) (mode : Mode) (r target : ℕ) → Usable ds rs ps r → target ≤ percentOf ds rs ps mode r highestDepth
     → IsLeast (percentOf ds rs ps mode r) target (leastOf ds rs ps mode r target)

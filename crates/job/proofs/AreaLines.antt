@@ -14,7 +14,7 @@ use Rattle.text.specs.declared.Numeral.the-variants as number
 use Rattle.text.specs.Part.{partOf}
 use Rattle.text.specs.Pieces.{space, lineFeed, comma, indexOf, hasOf, beforeOf, afterOf, pieces, joined}
 use Rattle.text.specs.Words.{sameOf, behindOf, placeFrom, wordFrom}
-use Rattle.text.specs.Numbers.{numberOf}
+use Rattle.text.specs.Numbers.{numeralOf}
 use Rattle.text.proofs.Between.{after-none}
 use Rattle.text.proofs.Front.{free, allFree}
 use Rattle.site.specs.declared.SubArea.{SubArea}
@@ -96,8 +96,8 @@ no-soil : placeFrom soils (beforeOf comma []) 0 ≡ Nothing
 unfolding placeFrom pieces joined sameOf partOf indexOf
 no-soil = refl
 
-no-number : numberOf [] ≡ number.Malformed
-unfolding numberOf
+no-number : numeralOf [] ≡ number.Malformed
+unfolding numeralOf
 no-number = refl
 
 -- fields that say nothing
@@ -126,11 +126,11 @@ module _ (s : List ℕ) where
   abbrev coverOf : List ℕ → Found
   coverOf v = placeFrom covers (beforeOf comma v) 0
 
-  soil-field : (at l c : ℕ) → subAreaFrom (At l) (At c) (wordFrom soils comma s at 0 .place) (countedAt s (wordFrom soils comma s at 0 .next) .numeral) ≡ cond (hasOf lineFeed (drop at s)) (subAreaFrom (At l) (At c) (soilOf (lineAt at)) (numberOf (afterOf comma (lineAt at)))) Malformed
+  soil-field : (at l c : ℕ) → subAreaFrom (At l) (At c) (wordFrom soils comma s at 0 .place) (countedAt s (wordFrom soils comma s at 0 .next) .numeral) ≡ cond (hasOf lineFeed (drop at s)) (subAreaFrom (At l) (At c) (soilOf (lineAt at)) (numeralOf (afterOf comma (lineAt at)))) Malformed
   unfolding subAreaFrom
   soil-field at l c =
       field soils s at (soils-free .0) (soils-free .1)
-      (λ x v. subAreaFrom (At l) (At c) x (numberOf v))
+      (λ x v. subAreaFrom (At l) (At c) x (numeralOf v))
       (λ x. subAreaFrom (At l) (At c) x (countedAt s next .numeral))
       (λ v. refl)
       (λ x. rw no-number (without-number l c x))
@@ -140,21 +140,21 @@ module _ (s : List ℕ) where
       next : ℕ
       next = wordFrom soils comma s at 0 .next
 
-      pick : (j : ℕ) (h : Bool) → subAreaFrom (At l) (At c) (At j) (cond h (numberOf (lineAt next)) number.Malformed) ≡ cond h (subAreaFrom (At l) (At c) (At j) (numberOf (lineAt next))) Malformed
+      pick : (j : ℕ) (h : Bool) → subAreaFrom (At l) (At c) (At j) (cond h (numeralOf (lineAt next)) number.Malformed) ≡ cond h (subAreaFrom (At l) (At c) (At j) (numeralOf (lineAt next))) Malformed
       pick j true = refl
       pick j false = refl
 
   abbrev afterCover : ℕ → ℕ
   afterCover at = wordFrom covers comma s at 0 .next
 
-  cover-field : (at l : ℕ) → subAreaFrom (At l) (wordFrom covers comma s at 0 .place) (wordFrom soils comma s (afterCover at) 0 .place) (countedAt s (wordFrom soils comma s (afterCover at) 0 .next) .numeral) ≡ cond (hasOf lineFeed (drop at s)) (subAreaFrom (At l) (coverOf (lineAt at)) (soilOf (afterOf comma (lineAt at))) (numberOf (afterOf comma (afterOf comma (lineAt at))))) Malformed
+  cover-field : (at l : ℕ) → subAreaFrom (At l) (wordFrom covers comma s at 0 .place) (wordFrom soils comma s (afterCover at) 0 .place) (countedAt s (wordFrom soils comma s (afterCover at) 0 .next) .numeral) ≡ cond (hasOf lineFeed (drop at s)) (subAreaFrom (At l) (coverOf (lineAt at)) (soilOf (afterOf comma (lineAt at))) (numeralOf (afterOf comma (afterOf comma (lineAt at))))) Malformed
   unfolding subAreaFrom
   cover-field at l =
       field covers s at (covers-free .0) (covers-free .1)
-      (λ x v. subAreaFrom (At l) x (soilOf v) (numberOf (afterOf comma v)))
+      (λ x v. subAreaFrom (At l) x (soilOf v) (numeralOf (afterOf comma v)))
       (λ x. subAreaFrom (At l) x (wordFrom soils comma s (afterCover at) 0 .place) (countedAt s (wordFrom soils comma s (afterCover at) 0 .next) .numeral))
       (λ v. refl)
-      (λ x. rw no-soil (without-soil l x (numberOf (afterOf comma []))))
+      (λ x. rw no-soil (without-soil l x (numeralOf (afterOf comma []))))
       refl
       (λ j. soil-field (afterCover at) l j)
 
@@ -166,10 +166,10 @@ module _ (s : List ℕ) where
   unfolding subAreaFrom subAreaOf
   fields-read at =
       field lands s at (lands-free .0) (lands-free .1)
-      (λ x v. subAreaFrom x (coverOf v) (soilOf (afterOf comma v)) (numberOf (afterOf comma (afterOf comma v))))
+      (λ x v. subAreaFrom x (coverOf v) (soilOf (afterOf comma v)) (numeralOf (afterOf comma (afterOf comma v))))
       (λ x. subAreaFrom x (wordFrom covers comma s (afterLand at) 0 .place) (wordFrom soils comma s (afterCover (afterLand at)) 0 .place) (countedAt s (wordFrom soils comma s (afterCover (afterLand at)) 0 .next) .numeral))
       (λ v. refl)
-      (λ x. rw no-cover (without-cover x (soilOf (afterOf comma [])) (numberOf (afterOf comma (afterOf comma [])))))
+      (λ x. rw no-cover (without-cover x (soilOf (afterOf comma [])) (numeralOf (afterOf comma (afterOf comma [])))))
       refl
       (λ j. cover-field (afterLand at) j)
 

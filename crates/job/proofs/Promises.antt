@@ -19,7 +19,7 @@ use Rattle.site.specs.declared.AreaAnswer.the-variants as area
 use Rattle.site.specs.Parts.{emptySite}
 use Rattle.site.specs.Judging.{judged, afterJudging, given as givenArea}
 use Rattle.site.specs.Adding.{settled, addAnswer, addedTo}
-use Rattle.site.specs.Promises.{Sized}
+use Rattle.site.specs.Promises.{InMemory}
 use Rattle.site.proofs.Promises.{empty-judged, holds-to}
 use Rattle.text.specs.Pieces.{lineFeed, startOf, endOf}
 use Rattle.text.proofs.Between.{piece-bytes, last-ends, empty-starts}
@@ -47,11 +47,11 @@ abbrev Sound : Reading → Type 0
 Sound r = Beside (r .answer) (r .site)
 
 -- an add keeps the 32 places of a record
-sized-added : (s : Site) (total : ℕ) (p : SubArea) → Sized s → Sized (addedTo s total p .site)
+sized-added : (s : Site) (total : ℕ) (p : SubArea) → InMemory s → InMemory (addedTo s total p .site)
 unfolding addedTo
 sized-added s total p z = told (addAnswer (s .count) total p)
   where
-    told : (x : AreaAnswer) → Sized (settled s p x .site)
+    told : (x : AreaAnswer) → InMemory (settled s p x .site)
     told (area.Granted more) = length-set (s .parts) (s .count) p ∙ z
     told (area.Refused why) = z
 
@@ -64,9 +64,9 @@ ended-sound job rest k s total j = at (eqb (length rest) 0 && leb 1 (s .count))
     at false = refl
 
 step-sound : (job : Job) (ls : List (List ℕ)) (k : ℕ) (s : Site) (total : Area) (found : AreaLine)
-    → Sized s
+    → InMemory s
     → judged s ≡ area.Granted total
-    → ((t : Site) (more : Area) → Sized t → judged t ≡ area.Granted more → Sound (areasFrom job ls (k + 1) t (more .0)))
+    → ((t : Site) (more : Area) → InMemory t → judged t ≡ area.Granted more → Sound (areasFrom job ls (k + 1) t (more .0)))
     → Sound (afterJudging (refusedAt k) (λ more. areasFrom job ls (k + 1) (addedLine s (total .0) found .site) more) (addedLine s (total .0) found .answer))
 unfolding addedLine
 step-sound job ls k s total Malformed z j later = refl
@@ -77,7 +77,7 @@ step-sound job ls k s total (Is p) z j later = told (addedTo s (total .0) p .ans
         later (addedTo s (total .0) p .site) more (sized-added s (total .0) p z) (holds-to s p total more z j e .1)
     told (area.Refused why) e = refl
 
-areas-sound : (job : Job) (ls : List (List ℕ)) (k : ℕ) (s : Site) (total : Area) → Sized s → judged s ≡ area.Granted total → Sound (areasFrom job ls k s (total .0))
+areas-sound : (job : Job) (ls : List (List ℕ)) (k : ℕ) (s : Site) (total : Area) → InMemory s → judged s ≡ area.Granted total → Sound (areasFrom job ls k s (total .0))
 unfolding areasFrom
 areas-sound job [] k s total z j = ended-sound job [] k s total j
 areas-sound job (rest ∷ []) k s total z j = ended-sound job rest k s total j

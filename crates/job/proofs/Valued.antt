@@ -15,7 +15,7 @@ use Rattle.text.specs.declared.Numeral.the-variants as number
 use Rattle.text.specs.Part.{partOf}
 use Rattle.text.specs.Pieces.{lineFeed, indexOf, hasOf, beforeOf, afterOf, nextOf}
 use Rattle.text.specs.Words.{opensOf, behindOf, placeFrom, wordFrom}
-use Rattle.text.specs.Numbers.{numberOf}
+use Rattle.text.specs.Numbers.{numeralOf}
 use Rattle.text.proofs.Parts.{part-tail}
 use Rattle.text.proofs.Splitting.{pieces-step}
 use Rattle.text.proofs.Front.{free, allFree, opens-cut, On, key-on, key-value}
@@ -105,7 +105,7 @@ module _ (s : List ℕ) (at : ℕ) {end : ℕ} (e : end ≡ nextOf lineFeed s at
       let l = length-drop at s in
       rw (le-ltb (indexOf lineFeed (drop at s)) (length (drop at s)) (omega arith))
 
-  pub number-ended : {v : List ℕ} {n : Numeral} → end < length s → v ≡ partOf s at end → n ≡ numberOf v → record { numeral = n; next = end + 1 } ≡ countedAt s at
+  pub number-ended : {v : List ℕ} {n : Numeral} → end < length s → v ≡ partOf s at end → n ≡ numeralOf v → record { numeral = n; next = end + 1 } ≡ countedAt s at
   unfolding countedAt partOf
   number-ended {v} {n} h p q =
       let t = drop at s in
@@ -113,24 +113,24 @@ module _ (s : List ℕ) (at : ℕ) {end : ℕ} (e : end ≡ nextOf lineFeed s at
       let l = length-drop at s in
       let m : end + 1 ≡ at + (indexOf lineFeed t + 1) = omega arith in
       let d : end - at ≡ indexOf lineFeed t = omega arith in
-      let c : n ≡ numberOf (beforeOf lineFeed t) = q ∙ ap numberOf (p ∙ cut-out d) in
+      let c : n ≡ numeralOf (beforeOf lineFeed t) = q ∙ ap numeralOf (p ∙ cut-out d) in
       rw (lt-ltb (indexOf lineFeed t) (length t) (omega arith), m, c)
     where
       cut-out : end - at ≡ indexOf lineFeed (drop at s) → partOf s at end ≡ beforeOf lineFeed (drop at s)
       cut-out d = rw (d, sub-zero)
 
-pub numeral-told : (s : List ℕ) (at : ℕ) → countedAt s at .numeral ≡ cond (hasOf lineFeed (drop at s)) (numberOf (beforeOf lineFeed (drop at s))) number.Malformed
+pub numeral-told : (s : List ℕ) (at : ℕ) → countedAt s at .numeral ≡ cond (hasOf lineFeed (drop at s)) (numeralOf (beforeOf lineFeed (drop at s))) number.Malformed
 unfolding countedAt
 numeral-told s at = pick (hasOf lineFeed (drop at s))
   where
-    pick : (h : Bool) → cond {A = NumberStep} h (record { numeral = numberOf (beforeOf lineFeed (drop at s)); next = at + (indexOf lineFeed (drop at s) + 1) }) (record { numeral = number.Malformed; next = length s }) .numeral ≡ cond h (numberOf (beforeOf lineFeed (drop at s))) number.Malformed
+    pick : (h : Bool) → cond {A = NumberStep} h (record { numeral = numeralOf (beforeOf lineFeed (drop at s)); next = at + (indexOf lineFeed (drop at s) + 1) }) (record { numeral = number.Malformed; next = length s }) .numeral ≡ cond h (numeralOf (beforeOf lineFeed (drop at s))) number.Malformed
     pick true = refl
     pick false = refl
 
 pub counted-there : (s : List ℕ) (at : ℕ) {a : ℕ} → countedAt s at .numeral ≡ number.Is a → hasOf lineFeed (drop at s) ≡ true
 counted-there s at {a} e = pick (hasOf lineFeed (drop at s)) refl (sym (numeral-told s at) ∙ e)
   where
-    pick : (h : Bool) → hasOf lineFeed (drop at s) ≡ h → cond h (numberOf (beforeOf lineFeed (drop at s))) number.Malformed ≡ number.Is a → hasOf lineFeed (drop at s) ≡ true
+    pick : (h : Bool) → hasOf lineFeed (drop at s) ≡ h → cond h (numeralOf (beforeOf lineFeed (drop at s))) number.Malformed ≡ number.Is a → hasOf lineFeed (drop at s) ≡ true
     pick true h e = h
     pick false h e = cc
 
@@ -146,7 +146,7 @@ pub record WordLine (key : List ℕ) (ws : List (List ℕ)) (s : List ℕ) (at :
   pub behind : (j : ℕ) → r .place ≡ At j → linesOf (drop (r .next) s) ≡ drop 1 (linesOf (drop at s))
 
 pub record NumberLine (key s : List ℕ) (at : ℕ) (r : NumberStep) : Type 0 where
-  pub says : r .numeral ≡ numberOf (valueOf key (linesOf (drop at s)))
+  pub says : r .numeral ≡ numeralOf (valueOf key (linesOf (drop at s)))
   pub behind : (a : ℕ) → r .numeral ≡ number.Is a → linesOf (drop (r .next) s) ≡ drop 1 (linesOf (drop at s))
 
 module _ (key s : List ℕ) (at : ℕ) (f : free lineFeed key ≡ true) where
@@ -176,7 +176,7 @@ module _ (key s : List ℕ) (at : ℕ) (f : free lineFeed key ≡ true) where
       ended false e h = cc
 
   pub number-line : {r : NumberStep} → r ≡ countedAt s (behindOf key s at) → NumberLine key s at r
-  unfolding numberOf
+  unfolding numeralOf
   number-line e =
       rw e
       (record {
@@ -184,6 +184,6 @@ module _ (key s : List ℕ) (at : ℕ) (f : free lineFeed key ≡ true) where
         behind = λ a h. let there = counted-there s (behindOf key s at) h in lines-behind (countedAt s (behindOf key s at) .next) there (counted-after s (behindOf key s at) there);
       })
     where
-      pick : (h : Bool) → numberOf (cond h (beforeOf lineFeed behindKey) []) ≡ cond h (numberOf (beforeOf lineFeed behindKey)) number.Malformed
+      pick : (h : Bool) → numeralOf (cond h (beforeOf lineFeed behindKey) []) ≡ cond h (numeralOf (beforeOf lineFeed behindKey)) number.Malformed
       pick true = refl
       pick false = refl

@@ -19,7 +19,7 @@ use Rattle.text.specs.declared.Numeral.{Numeral}
 use Rattle.text.specs.declared.Numeral.the-variants as number
 use Rattle.text.specs.Pieces.{comma, beforeOf, afterOf}
 use Rattle.text.specs.Words.{placeOf}
-use Rattle.text.specs.Numbers.{numberOf}
+use Rattle.text.specs.Numbers.{numeralOf}
 use Rattle.job.specs.declared.Job.{Job}
 use Rattle.job.specs.declared.Reading.{Reading}
 use Rattle.job.specs.declared.JobAnswer.the-variants.{Granted, Refused}
@@ -44,7 +44,7 @@ subAreaOf v =
     (placeOf landWords (beforeOf comma v))
     (placeOf coverWords (beforeOf comma (afterOf comma v)))
     (placeOf soilWords (beforeOf comma (afterOf comma (afterOf comma v))))
-    (numberOf (afterOf comma (afterOf comma (afterOf comma v))))
+    (numeralOf (afterOf comma (afterOf comma (afterOf comma v))))
 
 -- what the first of some lines says
 abbrev pub areaIn : List (List ℕ) → AreaLine

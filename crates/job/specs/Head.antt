@@ -9,7 +9,7 @@ use Rattle.text.specs.declared.Found.the-variants.{At, Nothing}
 use Rattle.text.specs.declared.Numeral.{Numeral}
 use Rattle.text.specs.declared.Numeral.the-variants.{Is, Malformed}
 use Rattle.text.specs.Words.{placeOf}
-use Rattle.text.specs.Numbers.{numberOf}
+use Rattle.text.specs.Numbers.{numeralOf}
 use Rattle.job.specs.declared.HeadRead.{HeadRead}
 use Rattle.job.specs.declared.HeadRead.the-variants.{Fine, Bad}
 use Rattle.job.specs.Words.{practiceWords, nutrientWords, modeWords, taskWords, nutrientAt, modeAt, taskAt}
@@ -20,7 +20,7 @@ abbrev pub wordIn : List (List ℕ) → ℕ → List ℕ → List ℕ → Found
 wordIn lines k key words = placeOf words (valueOf key (drop k lines))
 
 abbrev pub numberIn : List (List ℕ) → ℕ → List ℕ → Numeral
-numberIn lines k key = numberOf (valueOf key (drop k lines))
+numberIn lines k key = numeralOf (valueOf key (drop k lines))
 
 -- the first line that says nothing is the bad one
 unfoldable pub headFrom : Found → Found → Found → Numeral → Found → Numeral → HeadRead

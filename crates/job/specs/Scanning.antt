@@ -8,7 +8,7 @@ use lib.ListN.{length, drop}
 use Rattle.text.specs.declared.Numeral.the-variants.{Malformed}
 use Rattle.site.specs.declared.SubArea.{SubArea}
 use Rattle.text.specs.Pieces.{lineFeed, indexOf, hasOf, beforeOf, afterOf}
-use Rattle.text.specs.Numbers.{numberOf}
+use Rattle.text.specs.Numbers.{numeralOf}
 use Rattle.job.specs.declared.Job.{Job}
 use Rattle.job.specs.declared.HeadRead.the-variants.{Fine}
 use Rattle.job.specs.declared.AreaLine.{AreaLine}
@@ -26,7 +26,7 @@ unfoldable pub countedAt : List ℕ → ℕ → NumberStep
 countedAt s at =
     let t = drop at s in
     cond (hasOf lineFeed t)
-    (record { numeral = numberOf (beforeOf lineFeed t); next = at + (indexOf lineFeed t + 1) })
+    (record { numeral = numeralOf (beforeOf lineFeed t); next = at + (indexOf lineFeed t + 1) })
     (record { numeral = Malformed; next = length s })
 
 -- What the area line at the front of a text says; a line that is not ended says nothing.

@@ -16,7 +16,7 @@ use Rattle.site.specs.declared.Soil.{Soil}
 use Rattle.site.specs.declared.Soil.the-variants.{A, B, C, CD, D, U, NoSoil}
 use Rattle.site.specs.declared.SubArea.{SubArea}
 use Rattle.site.specs.Soils.{loadColumn}
-use Rattle.loads.specs.Rates.{imperviousPlace, soilPlace, perviousPlace, placeUnder, ratePlace}
+use Rattle.loads.specs.Rates.{imperviousPlace, soilPlace, perviousPlace, ratePlaceUnder, ratePlace}
 
 soil-below : (soil : Soil) → soilPlace soil < 16
 soil-below A = lit< tt
@@ -49,7 +49,7 @@ pervious-below For n h = lit< tt
 pervious-below Open n h = h
 pervious-below Ag n h = lit< tt
 
-under-below : (cover : Cover) (land : LandUse) (soil : Soil) → placeUnder cover land soil < 16
+under-below : (cover : Cover) (land : LandUse) (soil : Soil) → ratePlaceUnder cover land soil < 16
 under-below Imp land soil = impervious-below land
 under-below Per land soil = pervious-below land (soilPlace soil) (soil-below soil)
 

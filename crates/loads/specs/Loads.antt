@@ -16,7 +16,7 @@ use Rattle.site.specs.Parts.{partsOf, areaOf}
 use Rattle.site.specs.Judging.{judged, afterJudging}
 use Rattle.loads.specs.declared.LoadAnswer.{LoadAnswer}
 use Rattle.loads.specs.declared.LoadAnswer.the-variants.{Granted, Refused}
-use Rattle.loads.specs.Rates.{ratesOf, ratePlace}
+use Rattle.loads.specs.Rates.{exportRates, ratePlace}
 
 -- the load of a sub-area: its area times its rate
 abbrev pub partLoad : List ℕ → SubArea → ℕ
@@ -36,7 +36,7 @@ loadUnder rates s = afterJudging Refused (λ total. withinLargest (loadOf rates 
 
 -- the load of a site under the permit's table
 abbrev pub loadAnswer : Nutrient → Site → LoadAnswer
-loadAnswer nutrient s = loadUnder (ratesOf nutrient) s
+loadAnswer nutrient s = loadUnder (exportRates nutrient) s
 
 -- Removed load = load × percent / 100,000, rounded down (equation 3-2).
 abbrev pub removedOf : ℕ → ℕ → ℕ

@@ -35,9 +35,9 @@ abbrev pub tableMost : ℕ
 tableMost = 65_535
 
 -- the permit's table of a nutrient
-abbrev pub ratesOf : Nutrient → List ℕ
-ratesOf P = phosphorus
-ratesOf N = nitrogen
+abbrev pub exportRates : Nutrient → List ℕ
+exportRates P = phosphorus
+exportRates N = nitrogen
 
 -- the place of impervious land
 abbrev pub imperviousPlace : LandUse → ℕ
@@ -67,10 +67,10 @@ perviousPlace For bySoil = 9
 perviousPlace Open bySoil = bySoil
 perviousPlace Ag bySoil = 10
 
-abbrev pub placeUnder : Cover → LandUse → Soil → ℕ
-placeUnder Imp land soil = imperviousPlace land
-placeUnder Per land soil = perviousPlace land (soilPlace soil)
+abbrev pub ratePlaceUnder : Cover → LandUse → Soil → ℕ
+ratePlaceUnder Imp land soil = imperviousPlace land
+ratePlaceUnder Per land soil = perviousPlace land (soilPlace soil)
 
 -- the place of a sub-area in a table of rates
 abbrev pub ratePlace : SubArea → ℕ
-ratePlace p = placeUnder (p .cover) (p .land) (p .soil)
+ratePlace p = ratePlaceUnder (p .cover) (p .land) (p .soil)

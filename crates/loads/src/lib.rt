@@ -4,7 +4,7 @@ ghost use Prim.Native.Nat.{_≤_};
 ghost use lib.ListN.{getD};
 ghost use Rattle.site.specs.Parts.{partsOf};
 ghost use Rattle.site.specs.Judging.{Fine};
-ghost use Rattle.loads.specs.Rates.{tableMost, ratesOf, imperviousPlace, soilPlace, perviousPlace, ratePlace};
+ghost use Rattle.loads.specs.Rates.{tableMost, exportRates, imperviousPlace, soilPlace, perviousPlace, ratePlace};
 ghost use Rattle.loads.specs.Loads.{loadOf, withinLargest, loadUnder, loadAnswer, removedAnswer};
 use refusal::Refusal;
 use site::AreaAnswer;
@@ -65,7 +65,7 @@ const NITROGEN: [u16; 16] = [
 
 // The permit's table of a nutrient.
 pub fn rates(nutrient: Nutrient) -> [u16; 16]
-    ensures { λ r. ⌜ r ≡ ratesOf nutrient ⌝ }
+    ensures { λ r. ⌜ r ≡ exportRates nutrient ⌝ }
 {
     match nutrient {
         Nutrient::P => PHOSPHORUS,

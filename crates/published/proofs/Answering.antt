@@ -11,24 +11,24 @@ use Rattle.curve.specs.declared.PercentAnswer.the-variants as percent
 use Rattle.curve.specs.declared.Reached.{Reached}
 use Rattle.curve.specs.declared.Reached.the-variants as reach
 use Rattle.curve.specs.Answers.{percentAnswer, reachOf}
-use Rattle.published.specs.Published.{allSheets, depthsIn, between, Standing, placeOf, percentPublished, reachPublished}
+use Rattle.published.specs.Published.{allSheets, listDepths, stretch, Standing, sheetPlace, percentPublished, reachPublished}
 use Rattle.published.specs.declared.Place.{Place}
 use Rattle.published.specs.declared.Place.the-variants.{At, Refused}
 use Rattle.published.proofs.Places.{found-published, found-standing, found-rates, found-percents, refused-why, refused-published, depths-in}
 
-pub stands : (practice : ℕ) (nutrient : Nutrient) {place : Place} {r p e : ℕ} {all : List ℕ} → place ≡ placeOf practice nutrient → place ≡ At r p e
+pub stands : (practice : ℕ) (nutrient : Nutrient) {place : Place} {r p e : ℕ} {all : List ℕ} → place ≡ sheetPlace practice nutrient → place ≡ At r p e
     → all ≡ allSheets → Standing all r p e
 stands practice nutrient told found is = rw is (found-standing practice nutrient told found)
 
-module _ (practice : ℕ) (nutrient : Nutrient) (mode : Mode) (rate : ℕ) {place : Place} (told : place ≡ placeOf practice nutrient) where
+module _ (practice : ℕ) (nutrient : Nutrient) (mode : Mode) (rate : ℕ) {place : Place} (told : place ≡ sheetPlace practice nutrient) where
   module _ {r p e : ℕ} (found : place ≡ At r p e) {all : List ℕ} (is : all ≡ allSheets) where
-    pub percent-found : (d : ℕ) {a : PercentAnswer} → a ≡ percentAnswer (depthsIn all) (between all r p) (between all p e) mode rate d
+    pub percent-found : (d : ℕ) {a : PercentAnswer} → a ≡ percentAnswer (listDepths all) (stretch all r p) (stretch all p e) mode rate d
         → a ≡ percentPublished practice nutrient mode rate d
     percent-found d h =
         rw (found-published practice nutrient told found)
         (rw (is, depths-in, found-rates practice nutrient told found, found-percents practice nutrient told found) at h)
 
-    pub reach-found : (t : ℕ) {a : Reached} → a ≡ reachOf (depthsIn all) (between all r p) (between all p e) mode rate t
+    pub reach-found : (t : ℕ) {a : Reached} → a ≡ reachOf (listDepths all) (stretch all r p) (stretch all p e) mode rate t
         → a ≡ reachPublished practice nutrient mode rate t
     reach-found t h =
         rw (found-published practice nutrient told found)

@@ -18,7 +18,7 @@ use Rattle.refusal.specs.declared.Refusal.the-variants.{NoPublishedSheet}
 use Rattle.units.specs.declared.Nutrient.{Nutrient}
 use Rattle.units.specs.declared.Nutrient.the-variants.{P, N}
 use Rattle.published.specs.Tables.{depths, sheets}
-use Rattle.published.specs.Published.{lastPractice, ratesOf, percentsOf, isPublished, allSheets, depthsIn, between, Standing, starts, counts, turns, turnOf, startOf, countOf, placed, placeOf}
+use Rattle.published.specs.Published.{lastPractice, ratesOf, percentsOf, isPublished, allSheets, listDepths, stretch, Standing, starts, counts, turns, turnOf, sheetStart, rateCount, placed, sheetPlace}
 use Rattle.published.specs.declared.Place.{Place}
 use Rattle.published.specs.declared.Place.the-variants.{At, Refused}
 
@@ -37,23 +37,23 @@ pub turn-n : (practice : ℕ) {nutrient : Nutrient} → nutrient ≡ N → 9 + p
 turn-n practice e = rw e
 
 -- The tests of the practice number and of the count.
-pub above-last : (practice : ℕ) (nutrient : Nutrient) → lastPractice < practice → Refused NoPublishedSheet ≡ placeOf practice nutrient
-unfolding placeOf
+pub above-last : (practice : ℕ) (nutrient : Nutrient) → lastPractice < practice → Refused NoPublishedSheet ≡ sheetPlace practice nutrient
+unfolding sheetPlace
 above-last practice nutrient h = simp (lt-leb practice lastPractice h)
 
 module _ (practice : ℕ) (nutrient : Nutrient) (h : practice ≤ lastPractice) {i n : ℕ} (e : i ≡ turnOf nutrient practice) (f : n ≡ getD counts i 0) where
-  count-is : n ≡ countOf practice nutrient
+  count-is : n ≡ rateCount practice nutrient
   count-is = rw e at f
 
-  pub no-column : n < 1 → Refused NoPublishedSheet ≡ placeOf practice nutrient
-  unfolding placeOf
-  no-column l = simp (le-leb practice lastPractice h, lt-leb 1 (countOf practice nutrient) (rw count-is at l))
+  pub no-column : n < 1 → Refused NoPublishedSheet ≡ sheetPlace practice nutrient
+  unfolding sheetPlace
+  no-column l = simp (le-leb practice lastPractice h, lt-leb 1 (rateCount practice nutrient) (rw count-is at l))
 
-  pub some-column : {s : ℕ} → 1 ≤ n → s ≡ getD starts i 0 → At s (s + n) (s + n + n * 8) ≡ placeOf practice nutrient
-  unfolding placeOf placed
+  pub some-column : {s : ℕ} → 1 ≤ n → s ≡ getD starts i 0 → At s (s + n) (s + n + n * 8) ≡ sheetPlace practice nutrient
+  unfolding sheetPlace placed
   some-column l g =
       rw (count-is, g, e)
-      (simp (le-leb practice lastPractice h, le-leb 1 (countOf practice nutrient) (rw count-is at l)))
+      (simp (le-leb practice lastPractice h, le-leb 1 (rateCount practice nutrient) (rw count-is at l)))
 
 -- A test that two lists are the same, and what it tells.
 abbrev same : List ℕ → List ℕ → Bool
@@ -82,19 +82,19 @@ for-each test e p h = carry (λ k x. test k) practices e p (omega arith)
 -- A practice's sheet is the part of the list that its place says: one test of the nine, for each nutrient.
 module _ (nutrient : Nutrient) (p : ℕ) where
   abbrev from : ℕ
-  from = startOf p nutrient
+  from = sheetStart p nutrient
 
   abbrev to : ℕ
-  to = startOf p nutrient + countOf p nutrient
+  to = sheetStart p nutrient + rateCount p nutrient
 
   abbrev end : ℕ
-  end = startOf p nutrient + countOf p nutrient + countOf p nutrient * length depths
+  end = sheetStart p nutrient + rateCount p nutrient + rateCount p nutrient * length depths
 
   abbrev counted : Bool
-  counted = eqb (length (ratesOf p nutrient)) (countOf p nutrient)
+  counted = eqb (length (ratesOf p nutrient)) (rateCount p nutrient)
 
   abbrev in-place : Bool
-  in-place = same (between allSheets from to) (ratesOf p nutrient) && same (between allSheets to end) (percentsOf p nutrient)
+  in-place = same (stretch allSheets from to) (ratesOf p nutrient) && same (stretch allSheets to end) (percentsOf p nutrient)
 
   abbrev within : Bool
   within = leb end (length allSheets)
@@ -141,15 +141,15 @@ none-above P p h = rw (List·getD-eq-default (sheets P) ([], []) h)
 none-above N p h = rw (List·getD-eq-default (sheets N) ([], []) h)
 
 -- One up to 8 has a sheet where it has a rate.
-published-is : (nutrient : Nutrient) (p : ℕ) → p ≤ lastPractice → isPublished p nutrient ≡ ltb 0 (countOf p nutrient)
-published-is nutrient p h = ap (λ n. ltb 0 n) (eqb-true (length (ratesOf p nutrient)) (countOf p nutrient) (all-counted nutrient p h))
+published-is : (nutrient : Nutrient) (p : ℕ) → p ≤ lastPractice → isPublished p nutrient ≡ ltb 0 (rateCount p nutrient)
+published-is nutrient p h = ap (λ n. ltb 0 n) (eqb-true (length (ratesOf p nutrient)) (rateCount p nutrient) (all-counted nutrient p h))
 
-module _ (practice : ℕ) (nutrient : Nutrient) {place : Place} (told : place ≡ placeOf practice nutrient) where
+module _ (practice : ℕ) (nutrient : Nutrient) {place : Place} (told : place ≡ sheetPlace practice nutrient) where
   module _ {r p e : ℕ} (found : place ≡ At r p e) where
-    at : (leb practice lastPractice ≡ true) × (ltb 0 (countOf practice nutrient) ≡ true) × (r ≡ from nutrient practice) × (p ≡ to nutrient practice) × (e ≡ end nutrient practice)
-    unfolding placeOf placed
+    at : (leb practice lastPractice ≡ true) × (ltb 0 (rateCount practice nutrient) ≡ true) × (r ≡ from nutrient practice) × (p ≡ to nutrient practice) × (e ≡ end nutrient practice)
+    unfolding sheetPlace placed
     at =
-        chosen (leb practice lastPractice) (ltb 0 (countOf practice nutrient)) (from nutrient practice) (to nutrient practice) (end nutrient practice)
+        chosen (leb practice lastPractice) (ltb 0 (rateCount practice nutrient)) (from nutrient practice) (to nutrient practice) (end nutrient practice)
         NoPublishedSheet (sym told ∙ found)
 
     up-to-last : practice ≤ lastPractice
@@ -169,25 +169,25 @@ module _ (practice : ℕ) (nutrient : Nutrient) {place : Place} (told : place �
           within = leb-true (end nutrient practice) (length allSheets) (all-within nutrient practice up-to-last);
         })
 
-    pub found-rates : between allSheets r p ≡ ratesOf practice nutrient
+    pub found-rates : stretch allSheets r p ≡ ratesOf practice nutrient
     found-rates =
         rw (at .2, at .3)
-        (same-is (between allSheets (from nutrient practice) (to nutrient practice)) (ratesOf practice nutrient)
-        (and-left (same (between allSheets (from nutrient practice) (to nutrient practice)) (ratesOf practice nutrient))
-        (same (between allSheets (to nutrient practice) (end nutrient practice)) (percentsOf practice nutrient)) (all-in-place nutrient practice up-to-last)))
+        (same-is (stretch allSheets (from nutrient practice) (to nutrient practice)) (ratesOf practice nutrient)
+        (and-left (same (stretch allSheets (from nutrient practice) (to nutrient practice)) (ratesOf practice nutrient))
+        (same (stretch allSheets (to nutrient practice) (end nutrient practice)) (percentsOf practice nutrient)) (all-in-place nutrient practice up-to-last)))
 
-    pub found-percents : between allSheets p e ≡ percentsOf practice nutrient
+    pub found-percents : stretch allSheets p e ≡ percentsOf practice nutrient
     found-percents =
         rw (at .3, at .4)
-        (same-is (between allSheets (to nutrient practice) (end nutrient practice)) (percentsOf practice nutrient)
-        (and-right (same (between allSheets (from nutrient practice) (to nutrient practice)) (ratesOf practice nutrient))
-        (same (between allSheets (to nutrient practice) (end nutrient practice)) (percentsOf practice nutrient)) (all-in-place nutrient practice up-to-last)))
+        (same-is (stretch allSheets (to nutrient practice) (end nutrient practice)) (percentsOf practice nutrient)
+        (and-right (same (stretch allSheets (from nutrient practice) (to nutrient practice)) (ratesOf practice nutrient))
+        (same (stretch allSheets (to nutrient practice) (end nutrient practice)) (percentsOf practice nutrient)) (all-in-place nutrient practice up-to-last)))
 
   module _ {why : Refusal} (found : place ≡ Refused why) where
-    turned : (why ≡ NoPublishedSheet) × ((leb practice lastPractice && ltb 0 (countOf practice nutrient)) ≡ false)
-    unfolding placeOf placed
+    turned : (why ≡ NoPublishedSheet) × ((leb practice lastPractice && ltb 0 (rateCount practice nutrient)) ≡ false)
+    unfolding sheetPlace placed
     turned =
-        refused (leb practice lastPractice) (ltb 0 (countOf practice nutrient)) (from nutrient practice) (to nutrient practice) (end nutrient practice)
+        refused (leb practice lastPractice) (ltb 0 (rateCount practice nutrient)) (from nutrient practice) (to nutrient practice) (end nutrient practice)
         NoPublishedSheet (sym told ∙ found)
 
     pub refused-why : why ≡ NoPublishedSheet
@@ -200,6 +200,6 @@ module _ (practice : ℕ) (nutrient : Nutrient) {place : Place} (told : place �
         (λ (h : practice ≤ lastPractice). published-is nutrient practice h ∙ (simp (le-leb practice lastPractice h) at (turned .1)))
         (lt-or-le lastPractice practice)
 
-pub depths-in : depthsIn allSheets ≡ depths
+pub depths-in : listDepths allSheets ≡ depths
 unfolding allSheets
 depths-in = refl

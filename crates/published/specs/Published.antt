@@ -48,20 +48,20 @@ reachPublished practice nutrient mode r target =
     ((isPublished practice nutrient, NoPublishedSheet) ∷ [])
 
 -- sheets in a row, each with its rates before its percents
-abbrev pub joined : List (List ℕ × List ℕ) → List ℕ
-joined [] = []
-joined ((rates, percents) ∷ rest) = rates ++ percents ++ joined rest
+abbrev pub inARow : List (List ℕ × List ℕ) → List ℕ
+inARow [] = []
+inARow ((rates, percents) ∷ rest) = rates ++ percents ++ inARow rest
 
 -- one list holds them all: the depths, then the sheets for P and for N
 unfoldable pub allSheets : List ℕ
-allSheets = depths ++ joined (sheets P ++ sheets N)
+allSheets = depths ++ inARow (sheets P ++ sheets N)
 
 -- its depths, and the part of it from one place to another
-abbrev pub depthsIn : List ℕ → List ℕ
-depthsIn all = take (length depths) all
+abbrev pub listDepths : List ℕ → List ℕ
+listDepths all = take (length depths) all
 
-abbrev pub between : List ℕ → ℕ → ℕ → List ℕ
-between all from to = take (to - from) (drop from all)
+abbrev pub stretch : List ℕ → ℕ → ℕ → List ℕ
+stretch all from to = take (to - from) (drop from all)
 
 -- places of a sheet in such a list
 pub record Standing (all : List ℕ) (rates percents end : ℕ) : Type 0 where
@@ -94,21 +94,21 @@ abbrev pub turnOf : Nutrient → ℕ → ℕ
 turnOf P practice = practice
 turnOf N practice = lastPractice + 1 + practice
 
-abbrev pub startOf : ℕ → Nutrient → ℕ
-startOf practice nutrient = getD starts (turnOf nutrient practice) 0
+abbrev pub sheetStart : ℕ → Nutrient → ℕ
+sheetStart practice nutrient = getD starts (turnOf nutrient practice) 0
 
-abbrev pub countOf : ℕ → Nutrient → ℕ
-countOf practice nutrient = getD counts (turnOf nutrient practice) 0
+abbrev pub rateCount : ℕ → Nutrient → ℕ
+rateCount practice nutrient = getD counts (turnOf nutrient practice) 0
 
 -- from its start to its percents, and from these to its end
 unfoldable pub placed : ℕ → ℕ → Place
 placed start count = At start (start + count) (start + count + count * length depths)
 
 -- the place of a practice's sheet, refused 4 above 8 and where no column is published
-unfoldable pub placeOf : ℕ → Nutrient → Place
-placeOf practice nutrient =
-    inTurn Refused (placed (startOf practice nutrient) (countOf practice nutrient))
-    ((leb practice lastPractice, NoPublishedSheet) ∷ (ltb 0 (countOf practice nutrient), NoPublishedSheet) ∷ [])
+unfoldable pub sheetPlace : ℕ → Nutrient → Place
+sheetPlace practice nutrient =
+    inTurn Refused (placed (sheetStart practice nutrient) (rateCount practice nutrient))
+    ((leb practice lastPractice, NoPublishedSheet) ∷ (ltb 0 (rateCount practice nutrient), NoPublishedSheet) ∷ [])
 
 -- the paper's number, and the place: zeros for a refusal
 abbrev pub given : Place → ℕ × ℕ × ℕ × ℕ

@@ -5,7 +5,7 @@ ghost use Prim.Native.Nat.{_≤_, _<_};
 ghost use mathlib.Core.Path.{_≡_};
 ghost use lib.ListN.{getD};
 ghost use Rattle.curve.specs.Answers.{percentAnswer, reachOf};
-ghost use Rattle.published.specs.Published.{lastPractice, allSheets, starts, counts, turns, turnOf, placeOf, depthsIn, between, Standing, percentPublished, reachPublished};
+ghost use Rattle.published.specs.Published.{lastPractice, allSheets, starts, counts, turns, turnOf, sheetPlace, listDepths, stretch, Standing, percentPublished, reachPublished};
 use curve::Mode;
 use curve::PercentAnswer;
 use curve::Reached;
@@ -65,7 +65,7 @@ fn turn(practice: u64, nutrient: Nutrient) -> usize
 
 // The place of a practice's sheet for a nutrient.
 pub fn find(practice: u64, nutrient: Nutrient) -> Place
-    ensures { λ r. ⌜ r ≡ placeOf practice nutrient ⌝ }
+    ensures { λ r. ⌜ r ≡ sheetPlace practice nutrient ⌝ }
 {
     if LAST_PRACTICE < practice {
         return Place::Refused(Refusal::NoPublishedSheet);
@@ -95,7 +95,7 @@ fn percent_in(
     depth: Depth,
 ) -> PercentAnswer
     requires { ⌜ Standing (now all) rates percents end ⌝ }
-    ensures { λ r. ⌜ r ≡ percentAnswer (depthsIn (now (all .entry))) (between (now (all .entry)) rates percents) (between (now (all .entry)) percents end) mode (rate .0) (depth .0) ⌝ }
+    ensures { λ r. ⌜ r ≡ percentAnswer (listDepths (now (all .entry))) (stretch (now (all .entry)) rates percents) (stretch (now (all .entry)) percents end) mode (rate .0) (depth .0) ⌝ }
 {
     curve::percent(
         &all[..DEPTHS],
@@ -142,7 +142,7 @@ fn reach_in(
     target: Percent,
 ) -> Reached
     requires { ⌜ Standing (now all) rates percents end ⌝ }
-    ensures { λ r. ⌜ r ≡ reachOf (depthsIn (now (all .entry))) (between (now (all .entry)) rates percents) (between (now (all .entry)) percents end) mode (rate .0) (target .0) ⌝ }
+    ensures { λ r. ⌜ r ≡ reachOf (listDepths (now (all .entry))) (stretch (now (all .entry)) rates percents) (stretch (now (all .entry)) percents end) mode (rate .0) (target .0) ⌝ }
 {
     curve::reach(
         &all[..DEPTHS],

@@ -19,7 +19,7 @@ use Rattle.refusal.proofs.Numbers.{refusal-not-granted}
 use Rattle.units.specs.Limits.{mostRate, mostPercent, highestDepth}
 use Rattle.sheet.specs.declared.Verdict.{Verdict}
 use Rattle.sheet.specs.declared.Verdict.the-variants.{Fine, Unfit}
-use Rattle.sheet.specs.Sheet.{mostDepths, mostRates, previous, inStep, offending, offendingDepth, offendingRate, offendingPercent, lengthsFit, withoutRates, judged, verdictOf, given}
+use Rattle.sheet.specs.Sheet.{mostDepths, mostRates, previous, inStep, offending, offendingDepth, offendingRate, offendingPercent, lengthsFit, withoutRates, listJudged, verdictOf, given}
 use Rattle.sheet.specs.Rules.{InStep, Rules, FineExactly}
 use Rattle.sheet.proofs.Lengths.{lengths-kept}
 
@@ -39,7 +39,7 @@ passed-over true list place v e = absurd (unfit-fine e)
 passed-over false list place v e = (refl, e)
 
 -- A list that is passed over has no offending place.
-none : (list place count : ℕ) (next : Verdict) → judged list place count next ≡ Fine → (count ≤ place) × (next ≡ Fine)
+none : (list place count : ℕ) (next : Verdict) → listJudged list place count next ≡ Fine → (count ≤ place) × (next ≡ Fine)
 none list place count next e =
     let p = passed-over (ltb place count) list place next e in
     (ltb-false place count (p .0), p .1)
@@ -95,9 +95,9 @@ module _ (ds rs ps : List ℕ) where
   pub fine-rules : verdictOf ds rs ps ≡ Fine → Rules ds rs ps
   unfolding verdictOf
   fine-rules e =
-      let percents = judged 3 (offendingPercent (length ds) ps) (length ps) Fine in
-      let rates = judged 2 (offendingRate rs) (length rs) percents in
-      let depths = judged 1 (offendingDepth ds) (length ds) rates in
+      let percents = listJudged 3 (offendingPercent (length ds) ps) (length ps) Fine in
+      let rates = listJudged 2 (offendingRate rs) (length rs) percents in
+      let depths = listJudged 1 (offendingDepth ds) (length ds) rates in
       let a = chose (lengthsFit (length ds) (length rs) (length ps)) depths e in
       let b = none 1 (offendingDepth ds) (length ds) rates (a .1) in
       let c = none 2 (offendingRate rs) (length rs) percents (b .1) in

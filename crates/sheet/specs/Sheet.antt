@@ -52,16 +52,16 @@ abbrev pub offendingPercent : ℕ → List ℕ → ℕ
 offendingPercent n ps = offending ps n 0 mostPercent
 
 -- a list with an offending place below its length is unfit there; else the next one decides
-abbrev pub judged : ℕ → ℕ → ℕ → Verdict → Verdict
-judged list place count next = cond (ltb place count) (Unfit list place) next
+abbrev pub listJudged : ℕ → ℕ → ℕ → Verdict → Verdict
+listJudged list place count next = cond (ltb place count) (Unfit list place) next
 
 -- the lengths first, then depths, rates and percents in this order
 unfoldable pub verdictOf : List ℕ → List ℕ → List ℕ → Verdict
 verdictOf ds rs ps =
     cond (lengthsFit (length ds) (length rs) (length ps))
-    (judged 1 (offendingDepth ds) (length ds)
-    (judged 2 (offendingRate rs) (length rs)
-    (judged 3 (offendingPercent (length ds) ps) (length ps) Fine)))
+    (listJudged 1 (offendingDepth ds) (length ds)
+    (listJudged 2 (offendingRate rs) (length rs)
+    (listJudged 3 (offendingPercent (length ds) ps) (length ps) Fine)))
     (Unfit 0 0)
 
 -- the paper's number, list and place

@@ -23,7 +23,7 @@ use Rattle.site.specs.declared.AreaAnswer.the-variants.{Granted, Refused
 use Rattle.site.specs.Parts.{mostParts, partsOf, areaOf, emptySite}
 use Rattle.site.specs.Judging.{fits, judgedFrom, judged, impervious, afterJudging, given}
 use Rattle.site.specs.Adding.{kept, stored, settled, addAnswer, addedTo, added}
-use Rattle.site.specs.Promises.{allFit, FineExactly, Sized, Alike, PastCountUnread, RefusedKeeps, GrantedHolds, AddsAgree, EmptyFine}
+use Rattle.site.specs.Promises.{allFit, FineExactly, InMemory, Alike, PastCountUnread, RefusedKeeps, GrantedHolds, AddsAgree, EmptyFine}
 use Rattle.site.proofs.Judging.{never-granted, judged-has, has-judged}
 use Rattle.site.proofs.Adding.{grants, add-settles, add-answers, add-agrees}
 
@@ -79,11 +79,11 @@ all-fit-more (q ∷ ps) p f g =
     simp (b .0) (all-fit-more ps p (b .1) g)
 
 -- A site with a sub-area stored holds it after the others.
-pub parts-stored : (s : Site) (p : SubArea) → Sized s → s .count < mostParts → partsOf (stored s p) ≡ partsOf s ++ (p ∷ [])
+pub parts-stored : (s : Site) (p : SubArea) → InMemory s → s .count < mostParts → partsOf (stored s p) ≡ partsOf s ++ (p ∷ [])
 parts-stored s p z h = rw add-one (take-suc-set (s .parts) (s .count) p (omega arith))
 
 -- A site that is judged fine and has room is judged fine when a sub-area is stored.
-stored-fine : (s : Site) (p : SubArea) (total : Area) → Sized s → judged s ≡ Granted total → fits p ≡ true → s .count < mostParts
+stored-fine : (s : Site) (p : SubArea) (total : Area) → InMemory s → judged s ≡ Granted total → fits p ≡ true → s .count < mostParts
     → total .0 + areaOf p ≤ mostArea → judged (stored s p) ≡ Granted (record { 0 = total .0 + areaOf p })
 stored-fine s p total z j f h l =
     let e = parts-stored s p z h in
@@ -95,7 +95,7 @@ stored-fine s p total z j f h l =
     l
 
 -- What a granted add holds, where the record's total area is told.
-pub holds-to : (s : Site) (p : SubArea) (total a : Area) → Sized s → judged s ≡ Granted total → addedTo s (total .0) p .answer ≡ Granted a
+pub holds-to : (s : Site) (p : SubArea) (total a : Area) → InMemory s → judged s ≡ Granted total → addedTo s (total .0) p .answer ≡ Granted a
     → (partsOf (addedTo s (total .0) p .site) ≡ partsOf s ++ (p ∷ [])) × (judged (addedTo s (total .0) p .site) ≡ Granted a)
 holds-to s p total a z j e =
     let x : addAnswer (s .count) (total .0) p ≡ Granted a = sym (add-answers s (total .0) p) ∙ e in
@@ -103,7 +103,7 @@ holds-to s p total a z j e =
     rw (add-settles s (total .0) p, x)
     (parts-stored s p z (g .place), stored-fine s p total z j (g .fit) (g .place) (g .within) ∙ ap Granted (g .new-total))
 
-holds : (s : Site) (p : SubArea) (a : Area) → Sized s → added s p .answer ≡ Granted a
+holds : (s : Site) (p : SubArea) (a : Area) → InMemory s → added s p .answer ≡ Granted a
     → (partsOf (added s p .site) ≡ partsOf s ++ (p ∷ [])) × (judged (added s p .site) ≡ Granted a)
 unfolding added
 holds s p a z = told (judged s) refl
@@ -138,7 +138,7 @@ module _ (s t : Site) (r : Alike s t) where
     added-to-answer =
         add-answers s total p ∙ ap (λ (n : ℕ). addAnswer n total p) (r .count) ∙ sym (add-answers t total p)
 
-    stored-alike : Sized s → Sized t → s .count < mostParts → Alike (stored s p) (stored t p)
+    stored-alike : InMemory s → InMemory t → s .count < mostParts → Alike (stored s p) (stored t p)
     stored-alike y z h =
         let c = r .count in
         let g : t .count < mostParts = omega arith in
@@ -147,7 +147,7 @@ module _ (s t : Site) (r : Alike s t) where
           parts = parts-stored s p y h ∙ ap (λ (ps : List SubArea). ps ++ (p ∷ [])) (r .parts) ∙ sym (parts-stored t p z g);
         }
 
-    added-to-site : Sized s → Sized t → Alike (addedTo s total p .site) (addedTo t total p .site)
+    added-to-site : InMemory s → InMemory t → Alike (addedTo s total p .site) (addedTo t total p .site)
     added-to-site y z =
         rw (add-settles s total p, add-settles t total p)
         (told (addAnswer (s .count) total p) (addAnswer (t .count) total p) refl (ap (λ (n : ℕ). addAnswer n total p) (r .count)))
@@ -168,7 +168,7 @@ module _ (s t : Site) (r : Alike s t) where
         told (Granted total) = added-to-answer p (total .0)
         told (Refused why) = refl
 
-    added-site : Sized s → Sized t → Alike (added s p .site) (added t p .site)
+    added-site : InMemory s → InMemory t → Alike (added s p .site) (added t p .site)
     unfolding added
     added-site y z = rw (← judged-alike) (told (judged s))
       where

@@ -28,8 +28,8 @@ FineExactly =
     ↔ ((s .count ≤ mostParts) × (allFit (partsOf s) ≡ true) × (totalArea (partsOf s) ≡ a) × (a ≤ mostArea))
 
 -- every record in memory has its 32 places
-abbrev pub Sized : Site → Type 0
-Sized s = length (s .parts) ≡ mostParts
+abbrev pub InMemory : Site → Type 0
+InMemory s = length (s .parts) ≡ mostParts
 
 -- two records that agree up to the count
 pub record Alike (s t : Site) : Type 0 where
@@ -44,7 +44,7 @@ PastCountUnread =
     → (judged s ≡ judged t)
     × (impervious s ≡ impervious t)
     × ((p : SubArea) → added s p .answer ≡ added t p .answer)
-    × ((p : SubArea) → Sized s → Sized t → Alike (added s p .site) (added t p .site))
+    × ((p : SubArea) → InMemory s → InMemory t → Alike (added s p .site) (added t p .site))
 
 -- A refused add hands back the site as it was, past the count too.
 abbrev pub RefusedKeeps : Type 0
@@ -54,7 +54,7 @@ RefusedKeeps = (s : Site) (p : SubArea) → (givenBack (added s p) .0 .0 ≡ gra
 abbrev pub GrantedHolds : Type 0
 GrantedHolds =
     (s : Site) (p : SubArea) (a : ℕ)
-    → Sized s
+    → InMemory s
     → givenBack (added s p) .0 ≡ (granted, a)
     → (partsOf (givenBack (added s p) .1) ≡ partsOf s ++ (p ∷ [])) × (given (judged (givenBack (added s p) .1)) ≡ (granted, a))
 

@@ -13,7 +13,7 @@ use borrow.Author.Tests.{le-leb, lt-ltb, le-ltb, ltb-true, ne-eqb}
 use Rattle.laws.proofs.And.{and-false}
 use Rattle.laws.proofs.Order.{lt-or-le}
 use Rattle.text.specs.declared.Numeral.the-variants.{Is}
-use Rattle.text.specs.Numbers.{mostDigits, digitZero, digitNine, digitsFrom, leadingZero, numberOf, decimalFrom, decimalOf}
+use Rattle.text.specs.Numbers.{mostDigits, digitZero, digitNine, digitsFrom, leadingZero, numeralOf, decimalFrom, decimalOf}
 
 -- one digit read behind a number
 digit-read : (n : ℕ) (t : List ℕ) (v : ℕ) → n < 10 → digitsFrom ((digitZero + n) ∷ t) v ≡ digitsFrom t (v * 10 + n)
@@ -94,8 +94,8 @@ no-leading-zero n = ⊎-elim (one n) several (lt-or-le n 10)
     several h = rw (ne-eqb (getD (decimalFrom n n) 0 0) digitZero (digits-lead n n (below-power n) h)) (and-false (ltb 1 (length (decimalFrom n n))))
 
 -- Reading the digits of a number of at most fourteen of them gives it back.
-pub number-of-decimal : (n : ℕ) → n < 10 ^ mostDigits → numberOf (decimalOf n) ≡ Is n
-unfolding numberOf decimalOf digitsFrom
+pub number-of-decimal : (n : ℕ) → n < 10 ^ mostDigits → numeralOf (decimalOf n) ≡ Is n
+unfolding numeralOf decimalOf digitsFrom
 number-of-decimal n h =
     rw (
       le-ltb (length (decimalFrom n n)) 1 (digits-some n n),

@@ -13,7 +13,7 @@ use lib.Seq.{drop-cons}
 use borrow.Author.Tests.{le-leb, lt-leb, lt-ltb, le-ltb}
 use Rattle.text.specs.declared.Numeral.{Numeral}
 use Rattle.text.specs.declared.Numeral.the-variants.{Is, Malformed}
-use Rattle.text.specs.Numbers.{mostDigits, digitZero, digitNine, digitsFrom, leadingZero, numberOf}
+use Rattle.text.specs.Numbers.{mostDigits, digitZero, digitNine, digitsFrom, leadingZero, numeralOf}
 
 -- the first i bytes of s are digits and make the number v
 pub record Made (s : List ℕ) (v i : ℕ) : Type 0 where
@@ -55,18 +55,18 @@ module _ {s : List ℕ} where
   made-all m h = rw (drop-of-length-le s h) at (m .rest)
 
 -- which of its tests decides a number
-pub number-empty : (s : List ℕ) → length s < 1 → Malformed ≡ numberOf s
-unfolding numberOf
+pub number-empty : (s : List ℕ) → length s < 1 → Malformed ≡ numeralOf s
+unfolding numeralOf
 number-empty s h = rw (lt-ltb (length s) 1 h)
 
-pub number-long : (s : List ℕ) → 1 ≤ length s → mostDigits < length s → Malformed ≡ numberOf s
-unfolding numberOf
+pub number-long : (s : List ℕ) → 1 ≤ length s → mostDigits < length s → Malformed ≡ numeralOf s
+unfolding numeralOf
 number-long s h l = rw (le-ltb (length s) 1 h, lt-ltb mostDigits (length s) l)
 
-pub number-led : (s : List ℕ) {led : Bool} → 1 ≤ length s → length s ≤ mostDigits → led ≡ leadingZero s → led ≡ true → Malformed ≡ numberOf s
-unfolding numberOf
+pub number-led : (s : List ℕ) {led : Bool} → 1 ≤ length s → length s ≤ mostDigits → led ≡ leadingZero s → led ≡ true → Malformed ≡ numeralOf s
+unfolding numeralOf
 number-led s h l e t = rw (le-ltb (length s) 1 h, le-ltb mostDigits (length s) l, ← e, t)
 
-pub number-read : (s : List ℕ) {led : Bool} {n : Numeral} → 1 ≤ length s → length s ≤ mostDigits → led ≡ leadingZero s → led ≡ false → n ≡ digitsFrom s 0 → n ≡ numberOf s
-unfolding numberOf
+pub number-read : (s : List ℕ) {led : Bool} {n : Numeral} → 1 ≤ length s → length s ≤ mostDigits → led ≡ leadingZero s → led ≡ false → n ≡ digitsFrom s 0 → n ≡ numeralOf s
+unfolding numeralOf
 number-read s h l e t d = rw (le-ltb (length s) 1 h, le-ltb mostDigits (length s) l, ← e, t) d

@@ -28,8 +28,8 @@ abbrev pub leadingZero : List ℕ → Bool
 leadingZero s = ltb 1 (length s) && eqb (getD s 0 0) digitZero
 
 -- the number that a text says
-unfoldable pub numberOf : List ℕ → Numeral
-numberOf s =
+unfoldable pub numeralOf : List ℕ → Numeral
+numeralOf s =
     cond (ltb (length s) 1) Malformed
     (cond (ltb mostDigits (length s)) Malformed
     (cond (leadingZero s) Malformed

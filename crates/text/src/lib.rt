@@ -6,7 +6,7 @@ ghost use lib.ListN.{length, drop};
 ghost use Rattle.text.specs.Part.{Part};
 ghost use Rattle.text.specs.Pieces.{indexOf, nextOf, startOf};
 ghost use Rattle.text.specs.Words.{sameOf, opensOf, behindOf, unread, rowsOf, wordFrom};
-ghost use Rattle.text.specs.Numbers.{mostDigits, leadingZero, digitsFrom, numberOf};
+ghost use Rattle.text.specs.Numbers.{mostDigits, leadingZero, digitsFrom, numeralOf};
 
 // The place of a word in a list of words, counted from 0.
 pub enum Found {
@@ -180,7 +180,7 @@ pub fn word_at(words: &[u8], width: usize, s: &[u8], at: usize, end: u8) -> Word
 
 // The number that s says: 1 to 14 digits, with no leading zero except 0 itself.
 pub fn number(s: &[u8]) -> Numeral
-    ensures { λ r. ⌜ r ≡ numberOf (now (s .entry)) ⌝ }
+    ensures { λ r. ⌜ r ≡ numeralOf (now (s .entry)) ⌝ }
 {
     if s.len() < 1 {
         return Numeral::Malformed;

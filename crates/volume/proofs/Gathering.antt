@@ -24,9 +24,9 @@ use Rattle.site.specs.Soils.{runoffColumn}
 use Rattle.site.specs.Parts.{partsOf, areaOf, blank, totalArea}
 use Rattle.site.specs.Judging.{Fine}
 use Rattle.site.proofs.Parts.{Whole, part-at, none-left}
-use Rattle.volume.specs.Areas.{noArea, placeUnder, areaPlace, areaAt, withPart, gatheredFrom, areasOf, totalOf, Six}
+use Rattle.volume.specs.Areas.{noArea, areaPlaceUnder, areaPlace, areaAt, withPart, gatheredFrom, areasOf, totalOf, Six}
 
-under-most : (cover : Cover) (k : ℕ) → k ≤ 4 → placeUnder cover k ≤ 5
+under-most : (cover : Cover) (k : ℕ) → k ≤ 4 → areaPlaceUnder cover k ≤ 5
 under-most Imp k h = omega arith
 under-most Per k h = omega arith
 

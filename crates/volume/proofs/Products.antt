@@ -17,11 +17,11 @@ use Rattle.site.specs.declared.SubArea.{SubArea}
 use Rattle.site.specs.Soils.{runoffColumn}
 use Rattle.site.specs.Parts.{areaOf, under, imperviousArea}
 use Rattle.volume.specs.Volume.{ifPervious, volumeOf}
-use Rattle.volume.specs.Areas.{noArea, placeUnder, areaPlace, areaAt, withPart, gatheredFrom, areasOf, volumeFrom}
+use Rattle.volume.specs.Areas.{noArea, areaPlaceUnder, areaPlace, areaAt, withPart, gatheredFrom, areasOf, volumeFrom}
 
 -- What an area under a cover and on a column adds to V from the six areas, place by place.
 adds : (xs : List Area) → length xs ≡ 6 → (cover : Cover) (c : Column) (a d : ℕ)
-    → volumeFrom (set xs (placeUnder cover (columnPlace c)) (record { 0 = areaAt xs (placeUnder cover (columnPlace c)) + a })) d
+    → volumeFrom (set xs (areaPlaceUnder cover (columnPlace c)) (record { 0 = areaAt xs (areaPlaceUnder cover (columnPlace c)) + a })) d
     ≡ volumeFrom xs d + 121 * (300 * d * under cover a + ifPervious cover (a * runoffOf c d))
 unfolding volumeFrom
 adds (x₀ ∷ x₁ ∷ x₂ ∷ x₃ ∷ x₄ ∷ x₅ ∷ []) l Imp c a d = omega arith
@@ -53,7 +53,7 @@ volume-gathered ps d = let e = from-gathered (replicate 6 noArea) ps d refl in o
 
 -- What a sub-area adds to the first of the six areas.
 first-adds : (xs : List Area) → length xs ≡ 6 → (cover : Cover) (k a : ℕ)
-    → areaAt (set xs (placeUnder cover k) (record { 0 = areaAt xs (placeUnder cover k) + a })) 0 ≡ areaAt xs 0 + under cover a
+    → areaAt (set xs (areaPlaceUnder cover k) (record { 0 = areaAt xs (areaPlaceUnder cover k) + a })) 0 ≡ areaAt xs 0 + under cover a
 first-adds [] l cover k a = absurd (omega arith)
 first-adds (x ∷ xs) l Imp k a = refl
 first-adds (x ∷ xs) l Per k a = omega arith

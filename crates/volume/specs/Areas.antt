@@ -23,12 +23,12 @@ abbrev pub noArea : Area
 noArea = record { 0 = 0 }
 
 -- the place of a sub-area's area among the six: the impervious one, or that of its soil column
-abbrev pub placeUnder : Cover → ℕ → ℕ
-placeUnder Imp column = 0
-placeUnder Per column = suc column
+abbrev pub areaPlaceUnder : Cover → ℕ → ℕ
+areaPlaceUnder Imp column = 0
+areaPlaceUnder Per column = suc column
 
 abbrev pub areaPlace : SubArea → ℕ
-areaPlace p = placeUnder (p .cover) (columnPlace (runoffColumn (p .soil)))
+areaPlace p = areaPlaceUnder (p .cover) (columnPlace (runoffColumn (p .soil)))
 
 -- the area at a place
 abbrev pub areaAt : List Area → ℕ → ℕ
