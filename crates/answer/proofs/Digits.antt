@@ -13,7 +13,7 @@ use Rattle.laws.proofs.Order.{lt-or-le}
 use Rattle.text.specs.Numbers.{digitZero, decimalFrom, decimalOf}
 use Rattle.answer.specs.Lines.{widest}
 use Rattle.answer.specs.Writing.{pasted}
-use Rattle.answer.specs.Putting.{Room, Put}
+use Rattle.answer.specs.Inner.{Room, Put}
 use Rattle.answer.proofs.Pasting.{pasted-byte, pasted-before}
 
 -- how far the digits are looked for does not matter, once it is far enough

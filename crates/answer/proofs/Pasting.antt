@@ -9,7 +9,7 @@ use native.Mathlib.Omega.{arith}
 use lib.ListN.{length, getD, take, drop, set, length-append, length-set}
 use lib.Seq.{paste, paste-zero, paste-suc, length-paste, take-append-le, take-take, drop-at, take-length, take-all, length-take-le, append-snoc, set-split}
 use Rattle.answer.specs.Writing.{pasted}
-use Rattle.answer.specs.Putting.{Room, Put}
+use Rattle.answer.specs.Inner.{Room, Put}
 
 -- the first i bytes of a text, written over a buffer
 pasted-take : (d : List ℕ) (at : ℕ) (s : List ℕ) (i : ℕ) → i ≤ length s → pasted d at (take i s) ≡ paste d at s i

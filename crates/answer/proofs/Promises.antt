@@ -16,7 +16,7 @@ use Rattle.refusal.specs.Refusal.{numberOf, granted}
 use Rattle.answer.specs.declared.Outcome.the-variants.{Granted, Refused, BadSheet}
 use Rattle.answer.specs.Lines.{lineOf, answerText}
 use Rattle.answer.specs.Writing.{pasted, writtenOf, bufferOf, writtenGiven}
-use Rattle.answer.specs.Promises.{NeverLonger, LongestReached, RefusedShorter, OnlyTooShort, LongestSuffices, RefusedKeeps, GrantedHolds, SampleText}
+use Rattle.answer.specs.Promises.{NeverLonger, LongestReached, RefusedShorter, OnlyTooShort, LongestSuffices, RefusedKeeps, GrantedHolds}
 use Rattle.answer.proofs.Texts.{granted-longest, refused-longest, sheet-text}
 use Rattle.answer.proofs.Writing.{refused-answer, refused-buffer, granted-answer}
 
@@ -62,7 +62,3 @@ unfolding bufferOf pasted
 granted-holds buf text h =
     rw (le-ltb (length buf) (length text) h, zero-add (length text))
     (take-append-seam text (drop (length text) buf), drop-append-seam text (drop (length text) buf), length-append text (drop (length text) buf) ∙ rw (length-drop (length text) buf) (omega arith))
-
-pub sample-text : SampleText
-unfolding answerText lineOf flatten decimalOf decimalFrom
-sample-text = refl

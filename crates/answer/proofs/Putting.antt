@@ -6,7 +6,7 @@ use mathlib.Core.List.{List, [], _∷_, _++_, flatten, reverseAux}
 use Rattle.text.specs.Pieces.{lineFeed}
 use Rattle.text.specs.Numbers.{decimalOf}
 use Rattle.answer.specs.Lines.{lineOf}
-use Rattle.answer.specs.Putting.{Room, Put}
+use Rattle.answer.specs.Inner.{Room, Put}
 use Rattle.answer.proofs.Pasting.{room-last, room-before, put-none, put-before}
 
 -- the LF, the digits and the key of a line

@@ -18,7 +18,7 @@ use Rattle.text.specs.Numbers.{decimalOf}
 use Rattle.answer.specs.declared.Outcome.the-variants.{Granted, Refused, BadSheet}
 use Rattle.answer.specs.Outcomes.{given}
 use Rattle.answer.specs.Lines.{lineOf, grantedLines, answerText, longest, longestRefused}
-use Rattle.answer.specs.Putting.{Room, Put}
+use Rattle.answer.specs.Inner.{Room, Put}
 use Rattle.answer.specs.Promises.{Wide}
 use Rattle.answer.proofs.Digits.{one-digit, few-digits, word-digits}
 use Rattle.answer.proofs.Putting.{Lined, lined-none, lined-all}
@@ -46,7 +46,7 @@ module _ (f : Figures) where
       let none = ap length (one-digit granted (lit< tt)) in
       simp length-append (omega arith)
 
-  pub granted-longest : Wide (given (Granted f)) → length (answerText (Granted f)) ≤ longest
+  pub granted-longest : Wide (Granted f) → length (answerText (Granted f)) ≤ longest
   granted-longest w =
       let all = granted-length in
       let load = word-digits (f .load .0) (w .load) in

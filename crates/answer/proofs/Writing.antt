@@ -10,7 +10,7 @@ use borrow.Author.Tests.{lt-ltb, le-ltb}
 use Rattle.refusal.specs.declared.Refusal.the-variants.{BufferTooShort}
 use Rattle.answer.specs.declared.Written.the-variants.{Granted, Refused}
 use Rattle.answer.specs.Writing.{tooShort, writtenOf, bufferOf}
-use Rattle.answer.specs.Putting.{Put}
+use Rattle.answer.specs.Inner.{Put}
 
 module _ (d t : List ℕ) {size : ℕ} (e : size ≡ length t) where
   -- the buffer is too short

@@ -1,5 +1,5 @@
 pub mod Outcomes
 pub mod Lines
 pub mod Writing
-pub mod Putting
+pub mod Inner
 pub mod Promises

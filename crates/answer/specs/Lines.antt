@@ -9,8 +9,9 @@ use Rattle.laws.specs.Text.{bytes}
 use Rattle.refusal.specs.Refusal.{granted}
 use Rattle.text.specs.Pieces.{lineFeed}
 use Rattle.text.specs.Numbers.{decimalOf}
+use Rattle.credit.specs.Answers.{Given}
 use Rattle.answer.specs.declared.Outcome.{Outcome}
-use Rattle.answer.specs.Outcomes.{Given, given}
+use Rattle.answer.specs.Outcomes.{given, faultLine}
 
 -- a line: its key, the digits of its number, LF
 unfoldable pub lineOf : List ℕ → ℕ → List ℕ
@@ -28,19 +29,12 @@ grantedLines g =
     ∷ []
 
 -- a refused one prints the job's line
-abbrev pub refusedLines : Given → List (List ℕ)
-refusedLines g =
-    lineOf (bytes "answer=") (g .answer)
-    ∷ lineOf (bytes "line=") (g .line)
-    ∷ []
-
--- the lines of what an outcome gives
-abbrev pub answerLines : Given → List (List ℕ)
-answerLines g = cond (eqb (g .answer) granted) (grantedLines g) (refusedLines g)
+abbrev pub refusedLines : Given → ℕ → List (List ℕ)
+refusedLines g line = lineOf (bytes "answer=") (g .answer) ∷ lineOf (bytes "line=") line ∷ []
 
 -- the text of a finished outcome
 unfoldable pub answerText : Outcome → List ℕ
-answerText o = flatten (answerLines (given o))
+answerText o = flatten (cond (eqb (given o .answer) granted) (grantedLines (given o)) (refusedLines (given o) (faultLine o)))
 
 -- the most digits that a number of 64 bits has
 abbrev pub widest : ℕ

@@ -2,40 +2,18 @@
 -- Assumes nothing.
 use Prim.Native.Nat.{ℕ}
 use Rattle.credit.specs.declared.CreditAnswer.the-variants as credit
-use Rattle.credit.specs.Answers.{Given as Values, given as valuesOf}
+use Rattle.credit.specs.Answers.{Given, given as creditGiven}
 use Rattle.answer.specs.declared.Outcome.{Outcome}
 use Rattle.answer.specs.declared.Outcome.the-variants.{Granted, Refused, BadSheet}
 
--- the answer's number; a refused job's line; a bad sheet's list and place; the five figures of a granted job
-pub record Given : Type 0 where
-  pub answer : ℕ
-  pub line : ℕ
-  pub list : ℕ
-  pub place : ℕ
-  pub load : ℕ
-  pub depth : ℕ
-  pub percent : ℕ
-  pub volume : ℕ
-  pub removed : ℕ
-
--- what crediting and sizing give, with a line of the job
-abbrev pub inLine : ℕ → Values → Given
-inLine k v =
-    record {
-      answer = v .answer;
-      line = k;
-      list = v .list;
-      place = v .place;
-      load = v .load;
-      depth = v .depth;
-      percent = v .percent;
-      volume = v .volume;
-      removed = v .removed;
-    }
-
--- What each outcome gives: granted, 0 and the figures; refused, the number, the line and zeros; a sheet that breaks a rule, 5 with
--- list and place, which arises in no line.
+-- the number and the values: those of crediting and sizing
 abbrev pub given : Outcome → Given
-given (Granted f) = inLine 0 (valuesOf (credit.Granted f))
-given (Refused why k) = inLine k (valuesOf (credit.Refused why))
-given (BadSheet i j) = inLine 0 (valuesOf (credit.BadSheet i j))
+given (Granted f) = creditGiven (credit.Granted f)
+given (Refused why k) = creditGiven (credit.Refused why)
+given (BadSheet list place) = creditGiven (credit.BadSheet list place)
+
+-- the line of the job in which a refusal arose, 0 where it arose in none
+abbrev pub faultLine : Outcome → ℕ
+faultLine (Granted f) = 0
+faultLine (Refused why k) = k
+faultLine (BadSheet list place) = 0

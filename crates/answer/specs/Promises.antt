@@ -6,47 +6,35 @@ use mathlib.Core.Path.{_≡_}
 use mathlib.Core.List.{List}
 use mathlib.Core.Logic.{_↔_}
 use lib.ListN.{length, take, drop}
-use Rattle.laws.specs.Text.{bytes}
 use Rattle.refusal.specs.declared.Refusal.{Refusal}
 use Rattle.refusal.specs.declared.Refusal.the-variants.{BufferTooShort}
 use Rattle.refusal.specs.Refusal.{numberOf, granted}
+use Rattle.credit.specs.Credit.{figures}
 use Rattle.answer.specs.declared.Outcome.{Outcome}
 use Rattle.answer.specs.declared.Outcome.the-variants.{Granted, Refused}
-use Rattle.answer.specs.Outcomes.{Given, given}
+use Rattle.answer.specs.Outcomes.{given, faultLine}
 use Rattle.answer.specs.Lines.{answerText, longest, longestRefused}
 use Rattle.answer.specs.Writing.{writtenOf, bufferOf, writtenGiven}
 
--- what an outcome in memory gives: numbers of 64 bits
-pub record Wide (g : Given) : Type 0 where
-  pub line : g .line < 2 ^ 64
-  pub load : g .load < 2 ^ 64
-  pub depth : g .depth < 2 ^ 64
-  pub percent : g .percent < 2 ^ 64
-  pub volume : g .volume < 2 ^ 64
-  pub removed : g .removed < 2 ^ 64
+-- an outcome in memory: its line and its figures are numbers of 64 bits
+pub record Wide (o : Outcome) : Type 0 where
+  pub line : faultLine o < 2 ^ 64
+  pub load : given o .load < 2 ^ 64
+  pub depth : given o .depth < 2 ^ 64
+  pub percent : given o .percent < 2 ^ 64
+  pub volume : given o .volume < 2 ^ 64
+  pub removed : given o .removed < 2 ^ 64
 
--- No text is longer than the longest, and a refused outcome's is shorter still.
+-- No text is longer than the longest; that of a refusal with a line is at most its own longest.
 abbrev pub NeverLonger : Type 0
-NeverLonger = (o : Outcome) → Wide (given o) → length (answerText o) ≤ longest
+NeverLonger = (o : Outcome) → Wide o → length (answerText o) ≤ longest
 
 abbrev pub RefusedShorter : Type 0
 RefusedShorter = (why : Refusal) (k : ℕ) → k < 2 ^ 64 → length (answerText (Refused why k)) ≤ longestRefused
 
--- a granted outcome with five figures, in the order in which they are printed
-abbrev pub grantedWith : ℕ → ℕ → ℕ → ℕ → ℕ → Outcome
-grantedWith a b c d e =
-    Granted
-    (record {
-      load = record { 0 = a };
-      depth = record { 0 = b };
-      percent = record { 0 = c };
-      volume = record { 0 = d };
-      removed = record { 0 = e };
-    })
-
 -- The longest length is reached, by the largest numbers of 64 bits.
 abbrev pub LongestReached : Type 0
-LongestReached = let most = 2 ^ 64 - 1 in length (answerText (grantedWith most most most most most)) ≡ longest
+LongestReached = let most = 2 ^ 64 - 1 in length (answerText (Granted (figures most most most most most))) ≡ longest
 
 -- Writing gives 13 exactly when the buffer is shorter than the text, and else 0 and the text's length: it has no other refusal.
 abbrev pub OnlyTooShort : Type 0
@@ -59,7 +47,7 @@ OnlyTooShort =
 abbrev pub LongestSuffices : Type 0
 LongestSuffices =
     (o : Outcome) (buf : List ℕ)
-    → Wide (given o)
+    → Wide o
     → longest ≤ length buf
     → writtenGiven (writtenOf buf (answerText o)) ≡ (granted, length (answerText o))
 
@@ -75,9 +63,3 @@ GrantedHolds =
     → (take (length text) (bufferOf buf text) ≡ text)
     × (drop (length text) (bufferOf buf text) ≡ drop (length text) buf)
     × (length (bufferOf buf text) ≡ length buf)
-
--- 01's sample: a load job whose load is 1,568,350 prints these six lines.
-abbrev pub SampleText : Type 0
-SampleText =
-    answerText (grantedWith 1_568_350 0 0 0 0)
-    ≡ bytes "answer=0\nload=1568350\ndepth=0\ncredit=0\nvolume=0\nremoved=0\n"

@@ -5,7 +5,7 @@ ghost use lib.ListN.{length};
 ghost use Rattle.text.specs.Numbers.{digitZero, decimalOf};
 ghost use Rattle.answer.specs.Lines.{lineOf, answerText, widest, longest};
 ghost use Rattle.answer.specs.Writing.{writtenOf, bufferOf};
-ghost use Rattle.answer.specs.Putting.{Room, Put};
+ghost use Rattle.answer.specs.Inner.{Room, Put};
 use credit::Figures;
 use refusal::Refusal;
 

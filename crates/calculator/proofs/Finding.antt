@@ -72,8 +72,8 @@ module _ (sheet : Sheet) (j : Job) (s : Site) where
   task-size e h = rw e h
 
 -- A job that reads is worked out, and a text that does not is refused with its line.
-module _ (sheet : Job → Sheet) (text : List ℕ) {g : Reading} (told : g ≡ readingOf text) where
-  pub reads : (j : Job) {o : Outcome} → g .answer ≡ job.Granted j → o ≡ ofTask (j .task) (sheet j) j (g .site) → o ≡ outcomeOf sheet text
+module _ (sheet : ℕ → Sheet) (text : List ℕ) {g : Reading} (told : g ≡ readingOf text) where
+  pub reads : (j : Job) {o : Outcome} → g .answer ≡ job.Granted j → o ≡ ofTask (j .task) (sheet (j .practice)) j (g .site) → o ≡ outcomeOf sheet text
   unfolding outcomeOf
   reads j e h = rw (← told, e) h
 

@@ -1,2 +1,5 @@
 pub mod Finding
 pub mod Promises
+pub mod InTexts
+pub mod Fitting
+pub mod Sample

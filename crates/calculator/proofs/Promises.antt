@@ -15,14 +15,16 @@ use Rattle.refusal.proofs.Numbers.{refusal-not-granted}
 use Rattle.job.specs.declared.JobAnswer.the-variants as job
 use Rattle.answer.specs.declared.Outcome.{Outcome}
 use Rattle.answer.specs.declared.Outcome.the-variants.{Granted, Refused, BadSheet}
-use Rattle.answer.specs.Outcomes.{given}
+use Rattle.answer.specs.Outcomes.{given, faultLine}
 use Rattle.answer.specs.Lines.{answerText}
 use Rattle.answer.specs.Writing.{pasted, writtenOf, bufferOf, writtenGiven}
 use Rattle.calculator.specs.Outcome.{outcomeOf}
-use Rattle.calculator.specs.Promises.{Zeros, Faultless, EveryTextAnswered, UnreadIsRefused, BufferKept}
+use Rattle.calculator.specs.Promises.{Zeros, EveryTextAnswered, UnreadIsRefused, BufferKept}
 
-answered : (o : Outcome) → ((given o .answer ≡ granted) × Faultless (given o)) ⊎ ((given o .answer ≡ granted → ⊥) × Zeros (given o))
-answered (Granted f) = inl (refl, record { line = refl; list = refl; place = refl })
+answered : (o : Outcome)
+    → ((given o .answer ≡ granted) × (faultLine o ≡ 0) × (given o .list ≡ 0) × (given o .place ≡ 0))
+    ⊎ ((given o .answer ≡ granted → ⊥) × Zeros (given o))
+answered (Granted f) = inl (refl, refl, refl, refl)
 answered (Refused why line) =
     inr (refusal-not-granted why, record { load = refl; depth = refl; percent = refl; volume = refl; removed = refl })
 answered (BadSheet list place) =

@@ -12,6 +12,7 @@ use Rattle.loads.specs.declared.LoadAnswer.the-variants as load
 use Rattle.loads.specs.Loads.{loadAnswer}
 use Rattle.credit.specs.declared.CreditAnswer.{CreditAnswer}
 use Rattle.credit.specs.declared.CreditAnswer.the-variants as credit
+use Rattle.credit.specs.Credit.{figures}
 use Rattle.credit.specs.Answers.{Sheet, lent, published, answerOf, credit as creditOf, size as sizeOf}
 use Rattle.job.specs.declared.Job.{Job}
 use Rattle.job.specs.declared.Task.{Task}
@@ -26,21 +27,13 @@ use Rattle.answer.specs.declared.Outcome.the-variants.{Granted, Refused, BadShe
 abbrev pub outsideLines : Refusal → Outcome
 outsideLines why = Refused why 0
 
--- a granted load job gives the load and leaves the other figures 0
+-- a granted load job gives the load and leaves the other four figures 0
 abbrev pub ofLoad : LoadAnswer → Outcome
-ofLoad (load.Granted l) =
-    Granted
-    (record {
-      load = l;
-      depth = record { 0 = 0 };
-      percent = record { 0 = 0 };
-      volume = record { 0 = 0 };
-      removed = record { 0 = 0 };
-    })
+ofLoad (load.Granted l) = Granted (figures (l .0) 0 0 0 0)
 ofLoad (load.Refused why) = outsideLines why
 
 abbrev pub ofCredit : CreditAnswer → Outcome
-ofCredit (credit.Granted figures) = Granted figures
+ofCredit (credit.Granted f) = Granted f
 ofCredit (credit.BadSheet list place) = BadSheet list place
 ofCredit (credit.Refused why) = outsideLines why
 
@@ -54,17 +47,17 @@ ofTask task.Load sheet j s = ofLoadJob j s
 ofTask task.Credit sheet j s = ofCredit (answerOf sheet (creditOf (j .amount)) (j .nutrient) s (j .mode) (j .rate .0))
 ofTask task.Size sheet j s = ofCredit (answerOf sheet (sizeOf (j .amount)) (j .nutrient) s (j .mode) (j .rate .0))
 
--- what the tables say: the sheet of the job's practice; or what a lent sheet says in their place
-abbrev pub byTables : Job → Sheet
-byTables j = published (j .practice)
+-- the sheet of a practice number: the published one, or a lent sheet in the place of them all
+abbrev pub byTables : ℕ → Sheet
+byTables practice = published practice
 
-abbrev pub byLent : List ℕ → List ℕ → List ℕ → Job → Sheet
-byLent ds rs ps j = lent ds rs ps
+abbrev pub byLent : List ℕ → List ℕ → List ℕ → ℕ → Sheet
+byLent ds rs ps practice = lent ds rs ps
 
 -- a text that does not read is refused with its line; a job that reads is worked out
-abbrev pub ofReading : (Job → Sheet) → Site → JobAnswer → Outcome
-ofReading sheet s (job.Granted j) = ofTask (j .task) (sheet j) j s
+abbrev pub ofReading : (ℕ → Sheet) → Site → JobAnswer → Outcome
+ofReading sheet s (job.Granted j) = ofTask (j .task) (sheet (j .practice)) j s
 ofReading sheet s (job.Refused why line) = Refused why line
 
-unfoldable pub outcomeOf : (Job → Sheet) → List ℕ → Outcome
+unfoldable pub outcomeOf : (ℕ → Sheet) → List ℕ → Outcome
 outcomeOf sheet text = ofReading sheet (readingOf text .site) (readingOf text .answer)

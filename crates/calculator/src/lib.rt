@@ -87,7 +87,7 @@ fn by_lent(
 
 // The outcome of a job that reads.
 fn worked(job: Job, site: Site) -> Outcome
-    ensures { λ r. ⌜ r ≡ ofTask (job .task) (byTables job) job site ⌝ }
+    ensures { λ r. ⌜ r ≡ ofTask (job .task) (byTables (job .practice)) job site ⌝ }
 {
     let task = job.task;
     match task {
@@ -99,7 +99,7 @@ fn worked(job: Job, site: Site) -> Outcome
 
 // The same on a lent sheet.
 fn worked_on(job: Job, site: Site, depths: &[u64], rates: &[u64], percents: &[u64]) -> Outcome
-    ensures { λ r. ⌜ r ≡ ofTask (job .task) (byLent (now (depths .entry)) (now (rates .entry)) (now (percents .entry)) job) job site ⌝ }
+    ensures { λ r. ⌜ r ≡ ofTask (job .task) (byLent (now (depths .entry)) (now (rates .entry)) (now (percents .entry)) (job .practice)) job site ⌝ }
 {
     let task = job.task;
     match task {

@@ -8,7 +8,7 @@ use native.Mathlib.Omega.{arith}
 use lib.Dec.{leb, ltb}
 use borrow.Author.Tests.{le-leb, leb-true, le-ltb}
 use Rattle.laws.specs.Turn.{inTurn}
-use Rattle.laws.proofs.First.{first-le, fails-so-below}
+use Rattle.laws.proofs.First.{fails-so-below}
 use Rattle.refusal.specs.declared.Refusal.{Refusal}
 use Rattle.refusal.specs.declared.Refusal.the-variants.{NoImperviousArea, AmountOutOfRange, PastLargest, TargetUnreachable, TotalAreaPassed}
 use Rattle.units.specs.declared.Area.{Area}
@@ -18,7 +18,9 @@ use Rattle.units.specs.declared.Volume.{Volume}
 use Rattle.units.specs.declared.DepthAnswer.{DepthAnswer}
 use Rattle.units.specs.declared.DepthAnswer.the-variants as depth
 use Rattle.units.specs.Limits.{mostArea, largest, mostPercent, highestDepth, gridDepths}
-use Rattle.volume.specs.Areas.{areaAt, totalOf, withinLimit, volumeFrom, notAbove, Six}
+use Rattle.volume.specs.Areas.{areaAt, totalOf, withinLimit, volumeFrom}
+use Rattle.volume.specs.Inner.{Six}
+use Rattle.volume.proofs.Reaching.{within-on-grid}
 use Rattle.volume.specs.Answers.{depthOn}
 use Rattle.curve.specs.declared.Mode.{Mode}
 use Rattle.curve.specs.declared.Curves.{Curves}
@@ -28,16 +30,18 @@ use Rattle.curve.specs.declared.PercentAnswer.{PercentAnswer}
 use Rattle.curve.specs.declared.PercentAnswer.the-variants as percent
 use Rattle.curve.specs.declared.Reached.{Reached}
 use Rattle.curve.specs.declared.Reached.the-variants as reach
-use Rattle.curve.specs.Curve.{percentAt}
+use Rattle.curve.specs.Curve.{percentAt, depthReaching}
 use Rattle.curve.specs.Answers as curve
 use Rattle.curve.proofs.Answering.{admitted-ready}
 use Rattle.curve.proofs.Rising.{percent-most}
 use Rattle.credit.specs.declared.Wanted.the-variants.{Credit, Size}
 use Rattle.credit.specs.declared.CreditAnswer.{CreditAnswer}
 use Rattle.credit.specs.declared.CreditAnswer.the-variants.{Granted, BadSheet, Refused}
-use Rattle.credit.specs.Credit.{figuresOf, depthWithin, creditBy, sizedAt}
-use Rattle.credit.specs.Answers.{onCurves, worked, onSheet}
-use Rattle.credit.specs.Working.{Work, depthIn}
+use Rattle.volume.specs.Volume.{depthWithin}
+use Rattle.credit.specs.Credit.{figuresOf, creditBy, sizeBy}
+use Rattle.credit.specs.Answers.{worked, onSheet}
+use Rattle.credit.proofs.Admitting.{onCurves}
+use Rattle.credit.specs.Inner.{Work, depthIn, sizedAt}
 
 -- The depth of an answer is on the grid.
 kept-on-grid : (a b c : Bool) (x : Depth) → x .0 ≤ highestDepth
@@ -50,7 +54,7 @@ kept-on-grid false b c x h = omega arith
 depth-on-grid : (xs : List Area) (v : Volume) → depthIn (depthOn xs v) .0 ≤ highestDepth
 unfolding depthOn
 depth-on-grid xs v =
-    let l = first-le (notAbove xs (v .0)) gridDepths in
+    let l = within-on-grid (volumeFrom xs) (v .0) in
     kept-on-grid (withinLimit xs) (leb (v .0) largest) (leb (volumeFrom xs highestDepth) largest) (record { 0 = depthWithin (volumeFrom xs) (v .0) }) (omega arith)
 
 -- Crediting looks at the percent only where 9 and 15 do not arise.
@@ -78,14 +82,12 @@ credit-same xs l v p f s e =
 
 -- The percent at a grid depth, by what 5, 6 and 7 leave.
 abbrev percentBy : List ℕ → List ℕ → ℕ → Admission → PercentAnswer
-percentBy ds ps d (admission.Admitted c) = percent.Granted (record { 0 = percentAt ds ps c d })
-percentBy ds ps d (admission.BadSheet list place) = percent.BadSheet list place
-percentBy ds ps d (admission.Refused why) = percent.Refused why
+percentBy ds ps d a = curve.afterAdmission percent.BadSheet percent.Refused (λ c. percent.Granted (record { 0 = percentAt ds ps c d })) a
 
-percent-by : (ds ps : List ℕ) (d : ℕ) (a : Admission) → d ≤ highestDepth → curve.roundedAnswer (curve.exactFrom ds ps d a) ≡ percentBy ds ps d a
-percent-by ds ps d (admission.Admitted c) h = simp (le-leb d highestDepth h)
-percent-by ds ps d (admission.BadSheet list place) h = refl
-percent-by ds ps d (admission.Refused why) h = refl
+percent-by : (ds rs ps : List ℕ) (mode : Mode) (r d : ℕ) → d ≤ highestDepth
+    → curve.percentAnswer ds rs ps mode r d ≡ percentBy ds ps d (curve.admissionOf ds rs ps mode r)
+unfolding curve.percentAnswer
+percent-by ds rs ps mode r d h = simp (le-leb d highestDepth h)
 
 module _ (onward : Curves → CreditAnswer) (ds ps : List ℕ) (d : ℕ) where
   bad-told : (a : Admission) (list place : ℕ) → percentBy ds ps d a ≡ percent.BadSheet list place → BadSheet list place ≡ onCurves onward a
@@ -101,11 +103,10 @@ module _ (onward : Curves → CreditAnswer) (ds ps : List ℕ) (d : ℕ) where
 module _ (xs : List Area) (l : ℕ) (v : Volume) (ds rs ps : List ℕ) (mode : Mode) (r : ℕ) (reached : DepthAnswer) (d : Depth) (found : PercentAnswer)
     (w : Work xs l 0) (e : reached ≡ depthOn xs v) (g : d ≡ depthIn reached) (f : found ≡ curve.percentAnswer ds rs ps mode r (d .0)) where
   told : percentBy ds ps (depthIn (depthOn xs v) .0) (curve.admissionOf ds rs ps mode r) ≡ found
-  unfolding curve.exactAnswer
   told =
       sym
       (f ∙ ap (λ (k : Depth). curve.percentAnswer ds rs ps mode r (k .0)) (g ∙ ap depthIn e)
-      ∙ percent-by ds ps (depthIn (depthOn xs v) .0) (curve.admissionOf ds rs ps mode r) (depth-on-grid xs v))
+      ∙ percent-by ds rs ps mode r (depthIn (depthOn xs v) .0) (depth-on-grid xs v))
 
   pub credit-bad : (list place : ℕ) → found ≡ percent.BadSheet list place
       → BadSheet list place ≡ onSheet (Credit v) l (areaAt xs 0) (volumeFrom xs) ds rs ps mode r
@@ -141,54 +142,82 @@ module _ (xs : List Area) (l : ℕ) (v : Volume) (ds rs ps : List ℕ) (mode : M
   credit-ready p h =
       record { areas = w .areas; fits = w .fits; whole = most-by (curve.admissionOf ds rs ps mode r) p refl (told ∙ h) }
 
--- Where the target is not reached, the depth and the percent change nothing.
-unreached-same : (i b m c : Bool) (x y : CreditAnswer)
+-- Where the target is above 100 percent or is not reached, the depth and the percent change nothing.
+unreached-same : (i b m c : Bool) (x y : CreditAnswer) (last : List (Bool × Refusal)) → (b ≡ true → last ≡ (false, TargetUnreachable) ∷ [])
     → inTurn Refused x ((i, NoImperviousArea) ∷ (b, AmountOutOfRange) ∷ (m, PastLargest) ∷ (c, PastLargest) ∷ (false, TargetUnreachable) ∷ [])
-    ≡ inTurn Refused y ((i, NoImperviousArea) ∷ (b, AmountOutOfRange) ∷ (m, PastLargest) ∷ (c, PastLargest) ∷ (false, TargetUnreachable) ∷ [])
-unreached-same false b m c x y = refl
-unreached-same true false m c x y = refl
-unreached-same true true false c x y = refl
-unreached-same true true true false x y = refl
-unreached-same true true true true x y = refl
+    ≡ inTurn Refused y ((i, NoImperviousArea) ∷ (b, AmountOutOfRange) ∷ (m, PastLargest) ∷ (c, PastLargest) ∷ last)
+unreached-same false b m c x y last e = refl
+unreached-same true false m c x y last e = refl
+unreached-same true true false c x y last e = refl
+unreached-same true true true false x y last e = refl
+unreached-same true true true true x y last e = rw (e refl)
 
-short-same : (l i : ℕ) (volumeAt : ℕ → ℕ) (t d p e q : ℕ) → sizedAt l i volumeAt t d p false ≡ sizedAt l i volumeAt t e q false
-unfolding sizedAt
-short-same l i volumeAt t d p e q = unreached-same (ltb 0 i) (leb t mostPercent) (leb l largest) (leb (volumeAt highestDepth) largest)
-    (Granted (figuresOf l d p (volumeAt d))) (Granted (figuresOf l e q (volumeAt e)))
+missed-same : (l i : ℕ) (volumeAt percentAt : ℕ → ℕ) (t : ℕ) → (leb t mostPercent ≡ true → leb t (percentAt highestDepth) ≡ false)
+    → sizedAt l i volumeAt t highestDepth 0 false ≡ sizeBy l i volumeAt percentAt t
+unfolding sizedAt sizeBy
+missed-same l i volumeAt percentAt t e =
+    unreached-same (ltb 0 i) (leb t mostPercent) (leb l largest) (leb (volumeAt highestDepth) largest)
+    (Granted (figuresOf l highestDepth 0 (volumeAt highestDepth)))
+    (Granted (figuresOf l (depthReaching percentAt t) (percentAt (depthReaching percentAt t)) (volumeAt (depthReaching percentAt t))))
+    ((leb t (percentAt highestDepth), TargetUnreachable) ∷ [])
+    (λ b. ap (λ (x : Bool). (x, TargetUnreachable) ∷ []) (e b))
 
--- A sheet that 5, 6 and 7 leave is reached or falls short.
+-- What the least depth of a target says, by the tests of 9 and 10.
+abbrev leastBy : (ℕ → ℕ) → ℕ → Bool → Bool → Reached
+leastBy percentAt t high short = inTurn (λ why. why) (curve.leastFound percentAt t) ((high, reach.TooHigh) ∷ (short, reach.Short) ∷ [])
+
+-- It is found, or missed: 5, 6 and 7 are told before it.
 abbrev kindOf : Reached → ℕ
 kindOf (reach.Found d p) = 0
-kindOf reach.Short = 1
-kindOf (reach.BadSheet list place) = 2
-kindOf (reach.Refused why) = 3
+kindOf reach.TooHigh = 1
+kindOf reach.Short = 2
+kindOf (reach.BadSheet list place) = 3
+kindOf (reach.Refused why) = 4
 
-neither : (b : Bool) (d : Depth) (p : Percent) {x : Reached} → cond b (reach.Found d p) reach.Short ≡ x → kindOf x ≤ 1
-neither true d p e =
-    let q = ap kindOf e in
-    omega arith
-neither false d p e =
-    let q = ap kindOf e in
-    omega arith
+module _ (percentAt : ℕ → ℕ) (t : ℕ) where
+  neither : (a b : Bool) {x : Reached} → leastBy percentAt t a b ≡ x → kindOf x ≤ 2
+  neither false b e = let q = ap kindOf e in omega arith
+  neither true false e = let q = ap kindOf e in omega arith
+  neither true true e = let q = ap kindOf e in omega arith
+
+  found-by : (a b : Bool) (d : Depth) (p : Percent) → leastBy percentAt t a b ≡ reach.Found d p
+      → (b ≡ true) × (depthReaching percentAt t ≡ d .0) × (percentAt (depthReaching percentAt t) ≡ p .0)
+  found-by false b d p h = let z : _≡_ {A = ℕ} 0 1 = cc in absurd (omega arith)
+  found-by true false d p h = let z : _≡_ {A = ℕ} 0 1 = cc in absurd (omega arith)
+  found-by true true d p h = (refl, ap (λ (x : Reached). curve.reachGiven x .1) h, ap (λ (x : Reached). curve.reachGiven x .2) h)
+
+  short-by : (a b : Bool) → leastBy percentAt t a b ≡ reach.Short → a ≡ true → b ≡ false
+  short-by false b h e = cc
+  short-by true false h e = refl
+  short-by true true h e = cc
+
+  high-by : (a b : Bool) → leastBy percentAt t a b ≡ reach.TooHigh → a ≡ true → b ≡ false
+  high-by false b h e = cc
+  high-by true false h e = refl
+  high-by true true h e = cc
 
 module _ (xs : List Area) (l : ℕ) (t : Percent) (ds rs ps : List ℕ) (mode : Mode) (r : ℕ) (found : Reached) (w : Work xs l 0)
     (f : found ≡ curve.reachOf ds rs ps mode r (t .0)) where
-  -- what the least depth of the target tells, by the test of its percent at depth 200
-  found-by : (c : Curves) (b : Bool) (d : Depth) (p : Percent) → leb (t .0) (percentAt ds ps c highestDepth) ≡ b
-      → cond b
-      (reach.Found (record { 0 = curve.leastDepth ds ps c (t .0) }) (record { 0 = percentAt ds ps c (curve.leastDepth ds ps c (t .0)) }))
-      reach.Short
-      ≡ reach.Found d p
-      → (b ≡ true) × (curve.leastDepth ds ps c (t .0) ≡ d .0) × (percentAt ds ps c (curve.leastDepth ds ps c (t .0)) ≡ p .0)
-  found-by c true d p e h = (refl, ap (λ (x : Reached). curve.reachGiven x .1) h, ap (λ (x : Reached). curve.reachGiven x .2) h)
-  found-by c false d p e h = let z : _≡_ {A = ℕ} 0 1 = cc in absurd (omega arith)
+  -- the least depth by what 5, 6 and 7 leave
+  abbrev reachBy : Admission → Reached
+  reachBy a =
+      curve.afterAdmission reach.BadSheet reach.Refused
+      (λ c. leastBy (percentAt ds ps c) (t .0) (leb (t .0) mostPercent) (leb (t .0) (percentAt ds ps c highestDepth)))
+      a
 
-  sized-by : (a : Admission) (d : Depth) (p : Percent) → curve.reachFrom ds ps (t .0) a ≡ reach.Found d p
-      → sizedAt l (areaAt xs 0) (volumeFrom xs) (t .0) (d .0) (p .0) true
-      ≡ onCurves (λ c. worked (Size t) l (areaAt xs 0) (volumeFrom xs) (percentAt ds ps c)) a
-  unfolding curve.reachFrom
+  -- and the sizing
+  abbrev sizedBy : Admission → CreditAnswer
+  sizedBy a = onCurves (λ c. worked (Size t) l (areaAt xs 0) (volumeFrom xs) (percentAt ds ps c)) a
+
+  told-by : reachBy (curve.admissionOf ds rs ps mode r) ≡ found
+  unfolding curve.reachOf
+  told-by = sym f
+
+  sized-by : (a : Admission) (d : Depth) (p : Percent) → reachBy a ≡ reach.Found d p
+      → sizedAt l (areaAt xs 0) (volumeFrom xs) (t .0) (d .0) (p .0) true ≡ sizedBy a
+  unfolding sizedAt sizeBy
   sized-by (admission.Admitted c) d p h =
-      let k = found-by c (leb (t .0) (percentAt ds ps c highestDepth)) d p refl h in
+      let k = found-by (percentAt ds ps c) (t .0) (leb (t .0) mostPercent) (leb (t .0) (percentAt ds ps c highestDepth)) d p h in
       rw (k .0, ← k .1, ← k .2)
   sized-by (admission.BadSheet list place) d p h = cc
   sized-by (admission.Refused why) d p h = cc
@@ -197,62 +226,58 @@ module _ (xs : List Area) (l : ℕ) (t : Percent) (ds rs ps : List ℕ) (mode : 
       → answer ≡ sizedAt l (areaAt xs 0) (volumeFrom xs) (t .0) (d .0) (p .0) true
       → answer ≡ onSheet (Size t) l (areaAt xs 0) (volumeFrom xs) ds rs ps mode r
   unfolding onSheet
-  size-worked d p answer h k = k ∙ sized-by (curve.admissionOf ds rs ps mode r) d p (sym f ∙ h)
+  size-worked d p answer h k = k ∙ sized-by (curve.admissionOf ds rs ps mode r) d p (told-by ∙ h)
 
-  short-by : (c : Curves) (b : Bool) → leb (t .0) (percentAt ds ps c highestDepth) ≡ b
-      → cond b
-      (reach.Found (record { 0 = curve.leastDepth ds ps c (t .0) }) (record { 0 = percentAt ds ps c (curve.leastDepth ds ps c (t .0)) }))
-      reach.Short
-      ≡ reach.Short
-      → b ≡ false
-  short-by c true e h = cc
-  short-by c false e h = refl
+  -- A target that is missed is refused by what is tried in turn.
+  missed-by : (a : Admission) (x : Reached)
+      → ((c : Curves) → leastBy (percentAt ds ps c) (t .0) (leb (t .0) mostPercent) (leb (t .0) (percentAt ds ps c highestDepth)) ≡ x
+      → leb (t .0) mostPercent ≡ true → leb (t .0) (percentAt ds ps c highestDepth) ≡ false)
+      → kindOf x ≤ 2 → reachBy a ≡ x
+      → sizedAt l (areaAt xs 0) (volumeFrom xs) (t .0) highestDepth 0 false ≡ sizedBy a
+  missed-by (admission.Admitted c) x e q h = missed-same l (areaAt xs 0) (volumeFrom xs) (percentAt ds ps c) (t .0) (e c h)
+  missed-by (admission.BadSheet list place) x e q h = let z = ap kindOf h in absurd (omega arith)
+  missed-by (admission.Refused why) x e q h = let z = ap kindOf h in absurd (omega arith)
 
-  unsized-by : (a : Admission) → curve.reachFrom ds ps (t .0) a ≡ reach.Short
-      → sizedAt l (areaAt xs 0) (volumeFrom xs) (t .0) highestDepth 0 false
-      ≡ onCurves (λ c. worked (Size t) l (areaAt xs 0) (volumeFrom xs) (percentAt ds ps c)) a
-  unfolding curve.reachFrom
-  unsized-by (admission.Admitted c) h =
-      rw (short-by c (leb (t .0) (percentAt ds ps c highestDepth)) refl h)
-      (short-same l (areaAt xs 0) (volumeFrom xs) (t .0) highestDepth 0 _ _)
-  unsized-by (admission.BadSheet list place) h = cc
-  unsized-by (admission.Refused why) h = cc
+  module _ (answer : CreditAnswer) (k : answer ≡ sizedAt l (areaAt xs 0) (volumeFrom xs) (t .0) highestDepth 0 false) where
+    pub size-short : found ≡ reach.Short → answer ≡ onSheet (Size t) l (areaAt xs 0) (volumeFrom xs) ds rs ps mode r
+    unfolding onSheet
+    size-short h =
+        k ∙ missed-by (curve.admissionOf ds rs ps mode r) reach.Short
+        (λ c. short-by (percentAt ds ps c) (t .0) (leb (t .0) mostPercent) (leb (t .0) (percentAt ds ps c highestDepth)))
+        (omega arith) (told-by ∙ h)
 
-  pub size-short : (answer : CreditAnswer) → found ≡ reach.Short → answer ≡ sizedAt l (areaAt xs 0) (volumeFrom xs) (t .0) highestDepth 0 false
-      → answer ≡ onSheet (Size t) l (areaAt xs 0) (volumeFrom xs) ds rs ps mode r
-  unfolding onSheet
-  size-short answer h k = k ∙ unsized-by (curve.admissionOf ds rs ps mode r) (sym f ∙ h)
+    pub size-high : found ≡ reach.TooHigh → answer ≡ onSheet (Size t) l (areaAt xs 0) (volumeFrom xs) ds rs ps mode r
+    unfolding onSheet
+    size-high h =
+        k ∙ missed-by (curve.admissionOf ds rs ps mode r) reach.TooHigh
+        (λ c. high-by (percentAt ds ps c) (t .0) (leb (t .0) mostPercent) (leb (t .0) (percentAt ds ps c highestDepth)))
+        (omega arith) (told-by ∙ h)
 
-  bad-by : (a : Admission) (list place : ℕ) → curve.reachFrom ds ps (t .0) a ≡ reach.BadSheet list place
-      → BadSheet list place ≡ onCurves (λ c. worked (Size t) l (areaAt xs 0) (volumeFrom xs) (percentAt ds ps c)) a
-  unfolding curve.reachFrom
-  bad-by (admission.Admitted c) list place h = let z = neither (leb (t .0) (percentAt ds ps c highestDepth)) _ _ h in absurd (omega arith)
+  bad-by : (a : Admission) (list place : ℕ) → reachBy a ≡ reach.BadSheet list place → BadSheet list place ≡ sizedBy a
+  bad-by (admission.Admitted c) list place h = let z = neither (percentAt ds ps c) (t .0) (leb (t .0) mostPercent) (leb (t .0) (percentAt ds ps c highestDepth)) h in absurd (omega arith)
   bad-by (admission.BadSheet n q) list place h = cc
   bad-by (admission.Refused why) list place h = cc
 
   pub size-bad : (list place : ℕ) → found ≡ reach.BadSheet list place
       → BadSheet list place ≡ onSheet (Size t) l (areaAt xs 0) (volumeFrom xs) ds rs ps mode r
   unfolding onSheet
-  size-bad list place h = bad-by (curve.admissionOf ds rs ps mode r) list place (sym f ∙ h)
+  size-bad list place h = bad-by (curve.admissionOf ds rs ps mode r) list place (told-by ∙ h)
 
-  refused-by : (a : Admission) (why : Refusal) → curve.reachFrom ds ps (t .0) a ≡ reach.Refused why
-      → Refused why ≡ onCurves (λ c. worked (Size t) l (areaAt xs 0) (volumeFrom xs) (percentAt ds ps c)) a
-  unfolding curve.reachFrom
-  refused-by (admission.Admitted c) why h = let z = neither (leb (t .0) (percentAt ds ps c highestDepth)) _ _ h in absurd (omega arith)
+  refused-by : (a : Admission) (why : Refusal) → reachBy a ≡ reach.Refused why → Refused why ≡ sizedBy a
+  refused-by (admission.Admitted c) why h = let z = neither (percentAt ds ps c) (t .0) (leb (t .0) mostPercent) (leb (t .0) (percentAt ds ps c highestDepth)) h in absurd (omega arith)
   refused-by (admission.BadSheet n q) why h = cc
   refused-by (admission.Refused u) why h = cc
 
   pub size-stopped : (why : Refusal) → found ≡ reach.Refused why → Refused why ≡ onSheet (Size t) l (areaAt xs 0) (volumeFrom xs) ds rs ps mode r
   unfolding onSheet
-  size-stopped why h = refused-by (curve.admissionOf ds rs ps mode r) why (sym f ∙ h)
+  size-stopped why h = refused-by (curve.admissionOf ds rs ps mode r) why (told-by ∙ h)
 
   -- A depth that was found is on the grid, and its percent is at most 100 percent.
-  ready-by : (a : Admission) (d : Depth) (p : Percent) → a ≡ curve.admissionOf ds rs ps mode r → curve.reachFrom ds ps (t .0) a ≡ reach.Found d p
+  ready-by : (a : Admission) (d : Depth) (p : Percent) → a ≡ curve.admissionOf ds rs ps mode r → reachBy a ≡ reach.Found d p
       → (p .0 ≤ mostPercent) × (d .0 ≤ highestDepth)
-  unfolding curve.reachFrom
   ready-by (admission.Admitted c) d p e h =
-      let k = found-by c (leb (t .0) (percentAt ds ps c highestDepth)) d p refl h in
-      let m = percent-most (admitted-ready ds rs ps mode r e refl) (curve.leastDepth ds ps c (t .0)) in
+      let k = found-by (percentAt ds ps c) (t .0) (leb (t .0) mostPercent) (leb (t .0) (percentAt ds ps c highestDepth)) d p h in
+      let m = percent-most (admitted-ready ds rs ps mode r e refl) (depthReaching (percentAt ds ps c) (t .0)) in
       let g = fails-so-below (λ n. ltb (percentAt ds ps c n) (t .0)) gridDepths highestDepth
       (le-ltb (percentAt ds ps c highestDepth) (t .0) (leb-true (t .0) (percentAt ds ps c highestDepth) (k .0))) in
       (omega arith, omega arith)
@@ -261,7 +286,7 @@ module _ (xs : List Area) (l : ℕ) (t : Percent) (ds rs ps : List ℕ) (mode : 
 
   pub size-ready : (d : Depth) (p : Percent) → found ≡ reach.Found d p → Work xs l (p .0)
   size-ready d p h =
-      record { areas = w .areas; fits = w .fits; whole = ready-by (curve.admissionOf ds rs ps mode r) d p refl (sym f ∙ h) .0 }
+      record { areas = w .areas; fits = w .fits; whole = ready-by (curve.admissionOf ds rs ps mode r) d p refl (told-by ∙ h) .0 }
 
   pub size-on-grid : (d : Depth) (p : Percent) → found ≡ reach.Found d p → d .0 ≤ highestDepth
-  size-on-grid d p h = ready-by (curve.admissionOf ds rs ps mode r) d p refl (sym f ∙ h) .1
+  size-on-grid d p h = ready-by (curve.admissionOf ds rs ps mode r) d p refl (told-by ∙ h) .1

@@ -16,7 +16,7 @@ use Rattle.site.specs.Parts.{imperviousArea}
 use Rattle.volume.specs.Volume.{volumeOf, depthOf}
 use Rattle.volume.proofs.Rising.{volume-rises, volume-strict}
 use Rattle.volume.proofs.Reaching.{depth-on-grid, depth-within, depth-largest}
-use Rattle.credit.specs.Credit.{depthReaching}
+use Rattle.curve.specs.Curve.{depthReaching}
 
 module _ (ps : List SubArea) where
   -- More storage is no less deep.

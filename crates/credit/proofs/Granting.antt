@@ -4,6 +4,7 @@ use Prim.Native.Nat.{ℕ}
 use mathlib.Core.Bool.{true}
 use mathlib.Core.List.{List, [], _∷_}
 use mathlib.Core.Path.{_≡_, refl, ap}
+use native.Mathlib.Omega.{arith}
 use Rattle.refusal.specs.declared.Refusal.the-variants.{NoPublishedSheet}
 use Rattle.refusal.specs.Refusal.{granted}
 use Rattle.units.specs.declared.Nutrient.{Nutrient}
@@ -11,10 +12,13 @@ use Rattle.site.specs.declared.Site.{Site}
 use Rattle.site.specs.declared.SubArea.{SubArea}
 use Rattle.site.specs.declared.AreaAnswer.{AreaAnswer}
 use Rattle.site.specs.declared.AreaAnswer.the-variants as area
-use Rattle.site.specs.Parts.{partsOf}
-use Rattle.site.specs.Judging.{judged, afterJudging}
+use Rattle.site.specs.Parts.{partsOf, totalArea}
+use Rattle.site.specs.Judging.{judged, afterJudging, given as areaGiven}
+use Rattle.site.proofs.Judging.{has-judged}
+use Rattle.site.proofs.Promises.{fine-exactly}
+use Rattle.volume.proofs.Promises.{fits}
 use Rattle.curve.specs.declared.Mode.{Mode}
-use Rattle.curve.specs.Promises as curve
+use Rattle.curve.specs.Promises.{Usable}
 use Rattle.published.specs.Tables.{depths}
 use Rattle.published.specs.Published.{ratesOf, percentsOf, isPublished}
 use Rattle.credit.specs.declared.CreditAnswer.{CreditAnswer}
@@ -23,6 +27,7 @@ use Rattle.credit.specs.declared.Wanted.{Wanted}
 use Rattle.credit.specs.Answers.{Sheet, lent, published, credit, size, onSheet, onParts, bySheet, answerOf, given}
 use Rattle.credit.specs.Promises.{depthsIn, ratesIn, percentsIn, percentOn, isThere, Accepted, CreditGrantedExactly, SizeGrantedExactly}
 use Rattle.refusal.proofs.Numbers.{refusal-not-granted}
+use Rattle.loads.proofs.Permit.{load-within}
 use Rattle.credit.proofs.Passing.{granted-pass}
 use Rattle.credit.proofs.Opening.{sheet-admitted, onPercents, Open, granted-opens, credit-within, credit-is, size-within, size-is}
 
@@ -44,33 +49,38 @@ accepted sheet wanted n s mode r granting = told (judged s) refl granting
         → Accepted sheet n s r
     told (area.Granted total) j g =
         let o : Open sheet n s mode r = granted-opens wanted granting in
+        let f = fine-exactly s (total .0) .0 (ap areaGiven j) in
         record {
-          total = total;
-          fine = j;
+          count = f .0;
+          each-fits = f .1;
+          total = let e = f .2 in let l = f .3 in omega arith;
           there = sheet-there sheet wanted n (partsOf s) mode r g;
-          rated = o .accepted;
+          usable = o .accepted;
           impervious = o .within .some-impervious;
-          load-fits = o .within .load-within;
-          volume-fits = o .within .volumes-within;
         }
     told (area.Refused why) j g = absurd (refusal-not-granted why g)
 
 -- Where a sheet is there and accepted, its percents decide.
-sheet-works : (sheet : Sheet) (wanted : Wanted) (n : Nutrient) (parts : List SubArea) (mode : Mode) (r : ℕ)
-    → isThere sheet n ≡ true → curve.Usable (depthsIn sheet) (ratesIn sheet n) (percentsIn sheet n) r
+pub sheet-works : (sheet : Sheet) (wanted : Wanted) (n : Nutrient) (parts : List SubArea) (mode : Mode) (r : ℕ)
+    → isThere sheet n ≡ true → Usable (depthsIn sheet) (ratesIn sheet n) (percentsIn sheet n) r
     → bySheet sheet wanted n parts mode r ≡ onPercents wanted n parts (percentOn sheet n mode r)
 unfolding onSheet
 sheet-works (lent ds rs ps) wanted n parts mode r t p = rw (sheet-admitted ds rs ps mode r p)
 sheet-works (published practice) wanted n parts mode r t p =
     rw t (rw (sheet-admitted depths (ratesOf practice n) (percentsOf practice n) mode r p))
 
-opened : (sheet : Sheet) (n : Nutrient) (s : Site) (mode : Mode) (r : ℕ) → Accepted sheet n s r → Open sheet n s mode r
+pub opened : (sheet : Sheet) (n : Nutrient) (s : Site) (mode : Mode) (r : ℕ) → Accepted sheet n s r → Open sheet n s mode r
 unfolding answerOf
 opened sheet n s mode r a =
     record {
-      accepted = a .rated;
-      within = record { some-impervious = a .impervious; load-within = a .load-fits; volumes-within = a .volume-fits };
-      works = λ wanted. rw (a .fine) (sheet-works sheet wanted n (partsOf s) mode r (a .there) (a .rated));
+      accepted = a .usable;
+      within =
+          record {
+            some-impervious = a .impervious;
+            load-within = load-within n (partsOf s) (a .total);
+            volumes-within = fits (partsOf s) (a .total);
+          };
+      works = λ wanted. rw (has-judged s (record { 0 = totalArea (partsOf s) }) (a .count) (a .each-fits) refl (a .total)) (sheet-works sheet wanted n (partsOf s) mode r (a .there) (a .usable));
     }
 
 pub credit-granted-exactly : CreditGrantedExactly

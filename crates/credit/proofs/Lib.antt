@@ -1,3 +1,4 @@
+pub mod Admitting
 pub mod Working
 pub mod Answered
 pub mod Surveying
@@ -8,3 +9,5 @@ pub mod Passing
 pub mod Opening
 pub mod Promises
 pub mod Granting
+pub mod Refusing
+pub mod Ordering

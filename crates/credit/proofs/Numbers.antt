@@ -6,13 +6,14 @@ use Rattle.laws.specs.Sum.{sumOf}
 use Rattle.runoff.specs.Runoff.{runoffOf, byRows, fromRow}
 use Rattle.site.specs.Judging.{judgedFrom, judged}
 use Rattle.volume.specs.Volume.{volumeOf}
+use Rattle.volume.specs.Answers.{volumeAnswer}
 use Rattle.sheet.specs.Sheet.{previous, inStep, lengthsFit, withoutRates, offendingRate, verdictOf}
 use Rattle.curve.specs.Curve.{height, fastest, curvesOf, exactIn}
-use Rattle.curve.specs.Answers.{fastestTaken, rated, admissionOf, exactAnswer, reachFrom}
-use Rattle.credit.specs.Credit.{creditBy, sizedAt}
+use Rattle.curve.specs.Answers.{fastestTaken, rated, admissionOf, percentAnswer, reachOf}
+use Rattle.credit.specs.Credit.{creditBy, sizeBy}
 use Rattle.credit.specs.Answers.{onSheet, answerOf}
 use Rattle.credit.specs.Numbers.{Starred}
 
 pub starred-hold : Starred
-unfolding firstFrom sumOf runoffOf byRows fromRow judgedFrom judged volumeOf previous inStep lengthsFit withoutRates offendingRate verdictOf height fastest curvesOf exactIn fastestTaken rated admissionOf exactAnswer reachFrom creditBy sizedAt onSheet answerOf
+unfolding firstFrom sumOf runoffOf byRows fromRow judgedFrom judged volumeOf volumeAnswer previous inStep lengthsFit withoutRates offendingRate verdictOf height fastest curvesOf exactIn fastestTaken rated admissionOf percentAnswer reachOf creditBy sizeBy onSheet answerOf
 starred-hold = refl

@@ -25,11 +25,12 @@ use Rattle.volume.specs.Volume.{volumeOf, depthOf}
 use Rattle.sheet.specs.declared.Verdict.{Verdict}
 use Rattle.sheet.specs.declared.Verdict.the-variants.{Fine, Unfit}
 use Rattle.sheet.specs.Sheet.{verdictOf}
+use Rattle.sheet.proofs.Rules.{fine-rules, rules-fine}
 use Rattle.curve.specs.declared.Mode.{Mode}
 use Rattle.curve.specs.declared.Curves.{Curves}
 use Rattle.curve.specs.declared.Admission.{Admission}
 use Rattle.curve.specs.declared.Admission.the-variants as admission
-use Rattle.curve.specs.Curve.{curvesOf, percentOf}
+use Rattle.curve.specs.Curve.{curvesOf, percentOf, depthReaching}
 use Rattle.curve.specs.Answers.{fastestTaken, rated, judgedFirst, admissionOf}
 use Rattle.curve.specs.Promises as curve
 use Rattle.curve.proofs.Answering.{rate-taken, fine-rated}
@@ -40,22 +41,16 @@ use Rattle.credit.specs.declared.CreditAnswer.{CreditAnswer}
 use Rattle.credit.specs.declared.CreditAnswer.the-variants.{Granted, Refused}
 use Rattle.credit.specs.declared.Wanted.{Wanted}
 use Rattle.credit.specs.declared.Wanted.the-variants.{Credit, Size}
-use Rattle.credit.specs.Credit.{figuresOf, depthReaching}
-use Rattle.credit.specs.Answers.{Sheet, lent, published, credit, size, onCurves, worked, onSheet, onParts, bySheet, answerOf, given}
+use Rattle.credit.specs.Credit.{figuresOf}
+use Rattle.credit.specs.Answers.{Sheet, lent, published, credit, size, worked, onSheet, onParts, bySheet, answerOf, given}
 use Rattle.credit.specs.Promises.{depthsIn, ratesIn, percentsIn, percentOn, Credited, Sized}
 use Rattle.refusal.proofs.Numbers.{refusal-not-granted}
+use Rattle.credit.proofs.Admitting.{onCurves, curves-turn}
 use Rattle.credit.proofs.Passing.{granted-pass, Within, credit-passed, credit-works, size-passed, size-works, size-short}
-
--- A rate's tests, 6 and 7, are tests of the answer.
-curves-turn : (onward : Curves → CreditAnswer) (a : Admission) (tests : List (Bool × Refusal))
-    → onCurves onward (inTurn admission.Refused a tests) ≡ inTurn Refused (onCurves onward a) tests
-curves-turn onward a [] = refl
-curves-turn onward a ((true, why) ∷ tests) = curves-turn onward a tests
-curves-turn onward a ((false, why) ∷ tests) = refl
 
 -- An answer that is granted on a sheet passed 5, 6 and 7,
 module _ (ds rs ps : List ℕ) (mode : Mode) (r : ℕ) (onward : Curves → CreditAnswer) where
-  abbrev rateTests : List (Bool × Refusal)
+  abbrev pub rateTests : List (Bool × Refusal)
   rateTests = (leb r (fastestTaken rs), RateOutOfRange) ∷ (leb (getD rs 0 0) r, RateBelowSheet) ∷ []
 
   rate-passed : given (onCurves onward (rated rs mode r)) .answer ≡ granted → (r ≤ fastestTaken rs) × (getD rs 0 0 ≤ r)
@@ -73,13 +68,13 @@ module _ (ds rs ps : List ℕ) (mode : Mode) (r : ℕ) (onward : Curves → Cred
           → curve.Usable ds rs ps r
       told Fine f g =
           let p = rate-passed g in
-          record { fine = f; taken = p .0; slowest = p .1 }
+          record { rules = fine-rules ds rs ps f; taken = p .0; slowest = p .1 }
       told (Unfit list place) f g = absurd (refusal-not-granted UnfitSheet g)
 
 -- and is worked out by the curves of the site rate.
 pub sheet-admitted : (ds rs ps : List ℕ) (mode : Mode) (r : ℕ) → curve.Usable ds rs ps r
     → admissionOf ds rs ps mode r ≡ admission.Admitted (curvesOf rs mode r)
-sheet-admitted ds rs ps mode r p = sym (fine-rated ds rs ps refl mode r (p .fine) (rate-taken rs mode refl (p .taken) (p .slowest) refl))
+sheet-admitted ds rs ps mode r p = sym (fine-rated ds rs ps refl mode r (rules-fine ds rs ps (p .rules)) (rate-taken rs mode refl (p .taken) (p .slowest) refl))
 
 -- what is wanted of sub-areas, by the percents of a sheet
 abbrev pub onPercents : Wanted → Nutrient → List SubArea → (ℕ → ℕ) → CreditAnswer

@@ -14,7 +14,9 @@ use Rattle.refusal.specs.Refusal.{granted}
 use Rattle.units.specs.Limits.{largest, mostPercent, highestDepth}
 use Rattle.credit.specs.declared.CreditAnswer.{CreditAnswer}
 use Rattle.credit.specs.declared.CreditAnswer.the-variants.{Granted, Refused}
-use Rattle.credit.specs.Credit.{figuresOf, depthWithin, depthReaching, creditBy, sizedAt, sizeBy}
+use Rattle.volume.specs.Volume.{depthWithin}
+use Rattle.curve.specs.Curve.{depthReaching}
+use Rattle.credit.specs.Credit.{figuresOf, tried, creditBy, sizeBy}
 use Rattle.credit.specs.Answers.{given}
 
 -- each of the tests passes
@@ -38,19 +40,10 @@ pub record Within (load impervious : ℕ) (volumeAt : ℕ → ℕ) : Type 0 wher
   pub volumes-within : volumeAt highestDepth ≤ largest
 
 module _ (load impervious : ℕ) (volumeAt percentAt : ℕ → ℕ) where
-  -- 8, 9 by the amount, 15, and what is tried after them
-  abbrev tests : Bool → List (Bool × Refusal) → List (Bool × Refusal)
-  tests amount rest =
-      (ltb 0 impervious, refused.NoImperviousArea)
-      ∷ (amount, refused.AmountOutOfRange)
-      ∷ (leb load largest, refused.PastLargest)
-      ∷ (leb (volumeAt highestDepth) largest, refused.PastLargest)
-      ∷ rest
-
   module _ (a : CreditAnswer) (amount : Bool) (rest : List (Bool × Refusal)) where
-    all-passed : given (inTurn Refused a (tests amount rest)) .answer ≡ granted → Within load impervious volumeAt × (amount ≡ true) × Pass rest
+    all-passed : given (inTurn Refused a (tried load impervious volumeAt amount rest)) .answer ≡ granted → Within load impervious volumeAt × (amount ≡ true) × Pass rest
     all-passed g =
-        let p = granted-pass a (tests amount rest) g .0 in (
+        let p = granted-pass a (tried load impervious volumeAt amount rest) g .0 in (
           record {
             some-impervious = ltb-true 0 impervious (p .0);
             load-within = leb-true load largest (p .1 .1 .0);
@@ -60,7 +53,7 @@ module _ (load impervious : ℕ) (volumeAt percentAt : ℕ → ℕ) where
           p .1 .1 .1 .1,
         )
 
-    rest-decides : Within load impervious volumeAt → amount ≡ true → inTurn Refused a (tests amount rest) ≡ inTurn Refused a rest
+    rest-decides : Within load impervious volumeAt → amount ≡ true → inTurn Refused a (tried load impervious volumeAt amount rest) ≡ inTurn Refused a rest
     rest-decides w e =
         simp (
           lt-ltb 0 impervious (w .some-impervious),
@@ -91,25 +84,25 @@ module _ (load impervious : ℕ) (volumeAt percentAt : ℕ → ℕ) where
         Granted
         (figuresOf load (depthReaching percentAt target) (percentAt (depthReaching percentAt target)) (volumeAt (depthReaching percentAt target)))
 
-    abbrev reached : List (Bool × Refusal)
+    abbrev pub reached : List (Bool × Refusal)
     reached = (leb target (percentAt highestDepth), refused.TargetUnreachable) ∷ []
 
     pub size-passed : given (sizeBy load impervious volumeAt percentAt target) .answer ≡ granted
         → Within load impervious volumeAt × (target ≤ mostPercent) × (target ≤ percentAt highestDepth)
-    unfolding sizedAt
+    unfolding sizeBy
     size-passed g =
         let p = all-passed sized (leb target mostPercent) reached g in
         (p .0, leb-true target mostPercent (p .1), leb-true target (percentAt highestDepth) (p .2 .0))
 
     module _ (w : Within load impervious volumeAt) (h : target ≤ mostPercent) where
       pub size-works : target ≤ percentAt highestDepth → sizeBy load impervious volumeAt percentAt target ≡ sized
-      unfolding sizedAt
+      unfolding sizeBy
       size-works l =
           rest-decides sized (leb target mostPercent) reached w (le-leb target mostPercent h)
           ∙ simp (le-leb target (percentAt highestDepth) l)
 
       pub size-short : percentAt highestDepth < target → sizeBy load impervious volumeAt percentAt target ≡ Refused refused.TargetUnreachable
-      unfolding sizedAt
+      unfolding sizeBy
       size-short l =
           rest-decides sized (leb target mostPercent) reached w (le-leb target mostPercent h)
           ∙ simp (lt-leb target (percentAt highestDepth) l)

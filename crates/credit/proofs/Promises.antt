@@ -19,9 +19,10 @@ use Rattle.volume.specs.Volume.{volumeOf, depthOf}
 use Rattle.volume.proofs.Rising.{volume-rises}
 use Rattle.volume.proofs.Reaching.{depth-on-grid}
 use Rattle.curve.specs.declared.Mode.{Mode}
-use Rattle.curve.proofs.Promises.{never-falls-with-rate}
+use Rattle.curve.proofs.Promises.{never-falls-with-rate, finds-the-least}
 use Rattle.credit.specs.declared.CreditAnswer.the-variants.{Granted}
-use Rattle.credit.specs.Credit.{figuresOf, depthReaching}
+use Rattle.curve.specs.Curve.{depthReaching}
+use Rattle.credit.specs.Credit.{figuresOf}
 use Rattle.credit.specs.Answers.{Sheet, credit, size, answerOf, given, published}
 use Rattle.site.proofs.Promises as site
 use Rattle.published.proofs.FasterRates.{none-falls-with-rate}
@@ -38,7 +39,8 @@ pub size-is-by-the-tables : SizeIsByTheTables
 size-is-by-the-tables sheet n s mode r target g =
     let o : Open sheet n s mode r = granted-opens (size target) g in
     let l = size-within o target g in
-    rw (size-is o target (l .0) (l .1)) (refl, refl, refl, refl, refl)
+    rw (size-is o target (l .0) (l .1))
+    (refl, finds-the-least (depthsIn sheet) (ratesIn sheet n) (percentsIn sheet n) mode r target (o .accepted) (l .1), refl, refl, refl)
 
 pub more-storage-never-less : MoreStorageNeverLess
 more-storage-never-less sheet n s mode r v w h g k =

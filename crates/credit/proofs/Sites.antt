@@ -2,30 +2,20 @@
 -- Assumes nothing.
 use Prim.Native.Nat.{ℕ, _≤_, _<_}
 use mathlib.Core.List.{List}
-use mathlib.Core.Logic.{⊎-elim}
 use mathlib.Core.Path.{_≡_, refl, sym, _∙_, ap, fun-ext}
-use native.Mathlib.Nat.{mul-le-mul-left}
 use native.Mathlib.Omega.{arith}
-use lib.Dec.{leb}
-use lib.ListN.{getD, List·getD-eq-default}
-use borrow.Author.Tests.{leb-true}
-use Rattle.laws.proofs.Order.{lt-or-le}
-use Rattle.laws.proofs.Sum.{sum-scaled}
-use Rattle.laws.proofs.Table.{carry}
 use Rattle.refusal.specs.declared.Refusal.{Refusal}
 use Rattle.units.specs.declared.Area.{Area}
 use Rattle.units.specs.declared.Nutrient.{Nutrient}
-use Rattle.units.specs.declared.Nutrient.the-variants.{P, N}
-use Rattle.units.specs.Limits.{mostArea, largest}
 use Rattle.site.specs.declared.Site.{Site}
-use Rattle.site.specs.declared.SubArea.{SubArea}
 use Rattle.site.specs.declared.AreaAnswer.{AreaAnswer}
 use Rattle.site.specs.declared.AreaAnswer.the-variants as area
-use Rattle.site.specs.Parts.{partsOf, areaOf, imperviousArea, totalArea}
+use Rattle.site.specs.Parts.{partsOf, imperviousArea}
 use Rattle.site.specs.Judging.{judged}
 use Rattle.site.proofs.Judging.{judged-fine}
 use Rattle.loads.specs.Rates as rates
 use Rattle.loads.specs.Loads as loads
+use Rattle.loads.proofs.Permit.{load-within}
 use Rattle.volume.specs.Volume.{volumeOf}
 use Rattle.volume.specs.Areas.{areaAt, areasOf, volumeFrom}
 use Rattle.volume.proofs.Gathering.{gathered-six}
@@ -33,32 +23,15 @@ use Rattle.volume.proofs.Products.{volume-gathered, impervious-gathered}
 use Rattle.curve.specs.declared.Mode.{Mode}
 use Rattle.published.specs.declared.Place.{Place}
 use Rattle.published.specs.declared.Place.the-variants as place
-use Rattle.published.specs.Published.{sheetPlace, allSheets, listDepths, stretch}
+use Rattle.published.specs.Published.{allSheets}
+use Rattle.published.specs.Inner.{sheetPlace, listDepths, stretch}
 use Rattle.published.proofs.Places.{found-published, found-rates, found-percents, depths-in, refused-why, refused-published}
 use Rattle.credit.specs.declared.Wanted.{Wanted}
 use Rattle.credit.specs.declared.CreditAnswer.{CreditAnswer}
 use Rattle.credit.specs.declared.CreditAnswer.the-variants.{Refused}
 use Rattle.credit.specs.Answers.{Sheet, lent, published, onSheet, answerOf}
 use Rattle.credit.specs.declared.Survey.{Survey}
-use Rattle.credit.specs.Working.{Work, onPractice, surveyedBy, surveyed}
-
--- No rate of the permit is larger than a table can hold.
-rate-most : (n : Nutrient) (k : ℕ) → getD (rates.exportRates n) k 0 ≤ rates.tableMost
-rate-most P k =
-    ⊎-elim (λ (h : k < 16). leb-true _ _ (carry (λ i x. leb x rates.tableMost) (rates.exportRates P) refl k h))
-    (λ (h : 16 ≤ k). rw (List·getD-eq-default (rates.exportRates P) 0 h) (omega arith))
-    (lt-or-le k 16)
-rate-most N k =
-    ⊎-elim (λ (h : k < 16). leb-true _ _ (carry (λ i x. leb x rates.tableMost) (rates.exportRates N) refl k h))
-    (λ (h : 16 ≤ k). rw (List·getD-eq-default (rates.exportRates N) 0 h) (omega arith))
-    (lt-or-le k 16)
-
--- No load of a site passes 10^13.
-load-most : (n : Nutrient) (ps : List SubArea) → totalArea ps ≤ mostArea → loads.loadOf (rates.exportRates n) ps ≤ largest
-load-most n ps h =
-    let m = sum-scaled rates.tableMost (loads.partLoad (rates.exportRates n)) areaOf
-    (λ p. let q = mul-le-mul-left (areaOf p) (rate-most n (rates.ratePlace p)) in omega arith) ps in
-    omega arith
+use Rattle.credit.specs.Inner.{Work, onPractice, surveyedBy, surveyed}
 
 -- The record is judged before all else; what the walk over it found is what the definitions say of its sub-areas.
 module _ (s : Site) (n : Nutrient) (g : Survey) (e : g ≡ surveyed (rates.exportRates n) s) where
@@ -90,7 +63,7 @@ module _ (s : Site) (n : Nutrient) (g : Survey) (e : g ≡ surveyed (rates.expor
     pub survey-ready : Work (g .areas .of) (g .load .0) 0
     survey-ready =
         let within = judged-fine s total fine .total in
-        let m = load-most n (partsOf s) within in
+        let m = load-within n (partsOf s) within in
         let q = load-told in
         record { areas = rw areas-told (gathered-six (partsOf s) within); fits = omega arith; whole = omega arith }
 

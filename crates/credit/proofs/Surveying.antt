@@ -29,7 +29,7 @@ use Rattle.loads.specs.Loads.{partLoad}
 use Rattle.volume.specs.Areas.{noArea, areaAt, areaPlace, totalOf}
 use Rattle.volume.proofs.Gathering.{Gathering, place-within, total-set, at-most, gather-starts, gather-next, gather-ends}
 use Rattle.credit.specs.declared.Survey.{Survey}
-use Rattle.credit.specs.Working.{unsurveyed, surveyedBy, surveyed}
+use Rattle.credit.specs.Inner.{unsurveyed, surveyedBy, surveyed}
 
 -- The walk has come to place i with the total area, the six areas and the load of the sub-areas before it.
 pub record Surveying (rates : List ℕ) (s : Site) (i total load : ℕ) (xs : List Area) : Type 0 where

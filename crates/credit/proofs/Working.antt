@@ -29,8 +29,9 @@ use Rattle.volume.specs.Answers.{depthOn, volumeOn}
 use Rattle.credit.specs.declared.Figures.{Figures}
 use Rattle.credit.specs.declared.CreditAnswer.{CreditAnswer}
 use Rattle.credit.specs.declared.CreditAnswer.the-variants.{Granted, Refused}
-use Rattle.credit.specs.Credit.{figuresOf, depthWithin, creditBy, sizedAt}
-use Rattle.credit.specs.Working.{Work}
+use Rattle.volume.specs.Volume.{depthWithin}
+use Rattle.credit.specs.Credit.{figuresOf, creditBy}
+use Rattle.credit.specs.Inner.{Work, sizedAt}
 
 -- The removed load of a load and a percent within their limits.
 removed-told : (l : Load) (p : Percent) (found : LoadAnswer) → (l .0 ≤ largest) × (p .0 ≤ mostPercent) → found ≡ loads.removedAnswer (l .0) (p .0)

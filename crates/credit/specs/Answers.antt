@@ -14,11 +14,8 @@ use Rattle.loads.specs.Rates as rates
 use Rattle.loads.specs.Loads.{loadOf}
 use Rattle.volume.specs.Volume.{volumeOf}
 use Rattle.curve.specs.declared.Mode.{Mode}
-use Rattle.curve.specs.declared.Curves.{Curves}
-use Rattle.curve.specs.declared.Admission.{Admission}
-use Rattle.curve.specs.declared.Admission.the-variants as admission
 use Rattle.curve.specs.Curve.{percentAt}
-use Rattle.curve.specs.Answers.{admissionOf}
+use Rattle.curve.specs.Answers.{admissionOf, afterAdmission}
 use Rattle.published.specs.Tables.{depths}
 use Rattle.published.specs.Published.{ratesOf, percentsOf, isPublished}
 use Rattle.credit.specs.declared.CreditAnswer.{CreditAnswer}
@@ -39,21 +36,15 @@ credit v = Credit (record { 0 = v })
 abbrev pub size : ℕ → Wanted
 size target = Size (record { 0 = target })
 
--- 5, 6 and 7 refuse; an admitted sheet goes on with its curves
-abbrev pub onCurves : (Curves → CreditAnswer) → Admission → CreditAnswer
-onCurves onward (admission.Admitted c) = onward c
-onCurves onward (admission.BadSheet list place) = BadSheet list place
-onCurves onward (admission.Refused why) = Refused why
-
 -- crediting or sizing by a load, an impervious area, a V and the percent at each depth
 abbrev pub worked : Wanted → ℕ → ℕ → (ℕ → ℕ) → (ℕ → ℕ) → CreditAnswer
 worked (Credit v) load impervious volumeAt percents = creditBy load impervious volumeAt percents (v .0)
 worked (Size target) load impervious volumeAt percents = sizeBy load impervious volumeAt percents (target .0)
 
--- the same on a sheet of depths ds, rates rs and percents ps
+-- the same on a sheet of depths ds, rates rs and percents ps, after 5, 6 and 7
 unfoldable pub onSheet : Wanted → ℕ → ℕ → (ℕ → ℕ) → List ℕ → List ℕ → List ℕ → Mode → ℕ → CreditAnswer
 onSheet wanted load impervious volumeAt ds rs ps mode r =
-    onCurves (λ c. worked wanted load impervious volumeAt (percentAt ds ps c)) (admissionOf ds rs ps mode r)
+    afterAdmission BadSheet Refused (λ c. worked wanted load impervious volumeAt (percentAt ds ps c)) (admissionOf ds rs ps mode r)
 
 -- the same for a list of sub-areas, with its own load, impervious area and V
 abbrev pub onParts : Wanted → Nutrient → List SubArea → List ℕ → List ℕ → List ℕ → Mode → ℕ → CreditAnswer

@@ -1,5 +1,5 @@
 pub mod Credit
-pub mod Working
 pub mod Answers
 pub mod Promises
 pub mod Numbers
+pub mod Inner

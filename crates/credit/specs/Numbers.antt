@@ -1,4 +1,5 @@
--- 01, "Numbers to hold on to": the starred ones, all together as one list. Proved in proofs/Numbers.antt.
+-- 01, "Numbers to hold on to": the starred ones, all together as one list, each with all the numbers that its call gives back. Proved
+-- in proofs/Numbers.antt.
 -- Assumes nothing.
 use Prim.Native.Nat.{ℕ}
 use mathlib.Core.List.{List, [], _∷_, _++_}
@@ -8,45 +9,68 @@ use Rattle.units.specs.declared.Nutrient.the-variants.{N}
 use Rattle.site.specs.declared.Site.{Site}
 use Rattle.site.specs.Parts.{blank}
 use Rattle.volume.specs.Examples.{lot, yard}
-use Rattle.volume.specs.Volume.{volumeOf}
+use Rattle.volume.specs.Answers.{volumeAnswer, given as volumeGiven}
 use Rattle.sheet.specs.Examples.{depthsT, ratesT, percentsT}
+use Rattle.curve.specs.declared.Mode.{Mode}
 use Rattle.curve.specs.declared.Mode.the-variants.{Step, Mix}
 use Rattle.curve.specs.Examples.{onT, targetOnT}
-use Rattle.credit.specs.Answers.{Sheet, lent}
+use Rattle.credit.specs.Answers.{Sheet, lent, Given}
 use Rattle.credit.specs.Promises.{Credited, Sized}
 
 -- sheet T, lent
 abbrev pub sheetT : Sheet
 sheetT = lent depthsT ratesT percentsT
 
+abbrev pub lotSite : Site
+lotSite = record { parts = lot ++ replicate 31 blank; count = 1 }
+
 abbrev pub yardSite : Site
 yardSite = record { parts = yard ++ replicate 29 blank; count = 3 }
 
-abbrev pub starred : List ℕ
+-- of a percent on T: number, percent, list and place
+abbrev pub percentOnT : Mode → ℕ → ℕ → List ℕ
+percentOnT mode r d = let g = onT mode r d in g .0 ∷ g .1 ∷ g .2 ∷ g .3 ∷ []
+
+-- of a target on T, step, rate 50: number, depth, percent, list and place
+abbrev pub depthOnT : ℕ → List ℕ
+depthOnT target = let g = targetOnT target in g .0 ∷ g .1 ∷ g .2 ∷ g .3 ∷ g .4 ∷ []
+
+-- of V at a depth: number and volume
+abbrev pub volumeAt : Site → ℕ → List ℕ
+volumeAt s d = let g = volumeGiven (volumeAnswer s (record { 0 = d })) in g .0 ∷ g .1 ∷ []
+
+-- of a credit or a size: number, list and place, load, depth, percent, volume and removed load
+abbrev pub numbersOf : Given → List ℕ
+numbersOf g =
+    g .answer ∷ g .list ∷ g .place ∷ g .load ∷ g .depth ∷ g .percent ∷ g .volume ∷ g .removed ∷ []
+
+abbrev pub starred : List (List ℕ)
 starred =
     -- T, step, rate 50: depth 40 gives 35000; 0 gives 0; 10 gives 10000; 200 gives 70000
-    onT Step 50 40 .1 ∷ onT Step 50 0 .1 ∷ onT Step 50 10 .1 ∷ onT Step 50 200 .1
+    percentOnT Step 50 40 ∷ percentOnT Step 50 0 ∷ percentOnT Step 50 10 ∷ percentOnT Step 50 200
     -- T, mix, rate 50, depth 40: 43750; rate 26, depth 33: 30117
-    ∷ onT Mix 50 40 .1 ∷ onT Mix 26 33 .1
+    ∷ percentOnT Mix 50 40 ∷ percentOnT Mix 26 33
     -- T, step, rate 50: target 35000 gives depth 40, 35001 gives 41, 70000 gives 100, 70001 is refused 10
-    ∷ targetOnT 35_000 .1 ∷ targetOnT 35_001 .1 ∷ targetOnT 70_000 .1 ∷ targetOnT 70_001 .0
+    ∷ depthOnT 35_000 ∷ depthOnT 35_001 ∷ depthOnT 70_000 ∷ depthOnT 70_001
     -- T, rate 24: refused 7
-    ∷ onT Step 24 40 .0
+    ∷ percentOnT Step 24 40
     -- impervious 257, depth 36; impervious 400, pervious C 200 and B 150, depth 71
-    ∷ volumeOf lot 36 ∷ volumeOf yard 71
+    ∷ volumeAt lotSite 36 ∷ volumeAt yardSite 71
     -- on T, step, rate 50, target 55001 gives that volume; it is credited 55500, and one unit less 55000
-    ∷ Sized sheetT N yardSite Step 50 55_001 .volume
-    ∷ Credited sheetT N yardSite Step 50 1_100_343_750 .percent
-    ∷ Credited sheetT N yardSite Step 50 1_100_343_749 .percent
+    ∷ numbersOf (Sized sheetT N yardSite Step 50 55_001)
+    ∷ numbersOf (Credited sheetT N yardSite Step 50 1_100_343_750)
+    ∷ numbersOf (Credited sheetT N yardSite Step 50 1_100_343_749)
     ∷ []
 
 abbrev pub Starred : Type 0
 Starred =
     starred
-    ≡ 35_000 ∷ 0 ∷ 10_000 ∷ 70_000
-    ∷ 43_750 ∷ 30_117
-    ∷ 40 ∷ 41 ∷ 100 ∷ 10
-    ∷ 7
-    ∷ 335_847_600 ∷ 1_100_343_750
-    ∷ 1_100_343_750 ∷ 55_500 ∷ 55_000
+    ≡ (0 ∷ 35_000 ∷ 0 ∷ 0 ∷ []) ∷ (0 ∷ 0 ∷ 0 ∷ 0 ∷ []) ∷ (0 ∷ 10_000 ∷ 0 ∷ 0 ∷ []) ∷ (0 ∷ 70_000 ∷ 0 ∷ 0 ∷ [])
+    ∷ (0 ∷ 43_750 ∷ 0 ∷ 0 ∷ []) ∷ (0 ∷ 30_117 ∷ 0 ∷ 0 ∷ [])
+    ∷ (0 ∷ 40 ∷ 35_000 ∷ 0 ∷ 0 ∷ []) ∷ (0 ∷ 41 ∷ 35_750 ∷ 0 ∷ 0 ∷ []) ∷ (0 ∷ 100 ∷ 70_000 ∷ 0 ∷ 0 ∷ []) ∷ (10 ∷ 0 ∷ 0 ∷ 0 ∷ 0 ∷ [])
+    ∷ (7 ∷ 0 ∷ 0 ∷ 0 ∷ [])
+    ∷ (0 ∷ 335_847_600 ∷ []) ∷ (0 ∷ 1_100_343_750 ∷ [])
+    ∷ (0 ∷ 0 ∷ 0 ∷ 666_000 ∷ 71 ∷ 55_500 ∷ 1_100_343_750 ∷ 369_630 ∷ [])
+    ∷ (0 ∷ 0 ∷ 0 ∷ 666_000 ∷ 71 ∷ 55_500 ∷ 1_100_343_750 ∷ 369_630 ∷ [])
+    ∷ (0 ∷ 0 ∷ 0 ∷ 666_000 ∷ 70 ∷ 55_000 ∷ 1_100_343_749 ∷ 366_300 ∷ [])
     ∷ []

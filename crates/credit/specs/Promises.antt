@@ -1,33 +1,33 @@
 -- Demands 2 and 3: what is promised of crediting and sizing, for every lent sheet and every published practice, every site record,
--- every rate and both modes, through the numbers and values that are given back. Proved in proofs/Promises.antt.
+-- every rate and both modes, through the numbers and values that are given back. Proved in proofs/Promises, Granting and Ordering.
 -- Assumes nothing.
 use Prim.Native.Nat.{ℕ, _≤_, _<_}
-use mathlib.Core.Bool.{Bool, true}
+use mathlib.Core.Bool.{Bool, true, false}
 use mathlib.Core.List.{List}
 use mathlib.Core.Logic.{_↔_}
 use mathlib.Core.Path.{_≡_}
+use lib.ListN.{getD}
 use Rattle.refusal.specs.Refusal.{numberOf, granted}
-use Rattle.refusal.specs.declared.Refusal.the-variants.{TargetUnreachable}
+use Rattle.refusal.specs.declared.Refusal.the-variants.{NoPublishedSheet, UnfitSheet, RateOutOfRange, RateBelowSheet, NoImperviousArea, AmountOutOfRange, TargetUnreachable}
 use Rattle.units.specs.declared.Nutrient.{Nutrient}
-use Rattle.units.specs.declared.Area.{Area}
-use Rattle.units.specs.Limits.{largest, mostPercent, highestDepth}
+use Rattle.units.specs.Limits.{largest, mostArea, mostPercent, highestDepth}
 use Rattle.site.specs.declared.Site.{Site}
-use Rattle.site.specs.declared.AreaAnswer.the-variants as area
-use Rattle.site.specs.Parts.{partsOf, imperviousArea}
-use Rattle.site.specs.Judging.{judged}
-use Rattle.site.specs.Promises.{Alike}
+use Rattle.site.specs.Parts.{mostParts, partsOf, totalArea, imperviousArea}
+use Rattle.site.specs.Judging.{judged, given as areaGiven}
+use Rattle.site.specs.Promises.{allFit, Alike}
 use Rattle.loads.specs.Rates as rates
 use Rattle.loads.specs.Loads.{loadOf, removedOf}
 use Rattle.volume.specs.Volume.{volumeOf, depthOf}
+use Rattle.sheet.specs.Rules.{Rules}
+use Rattle.sheet.specs.Promises.{UnfitAt}
 use Rattle.curve.specs.declared.Mode.{Mode}
 use Rattle.curve.specs.Curve.{percentOf}
-use Rattle.curve.specs.Promises.{FasterIsNoLess}
-use Rattle.curve.specs.Promises as curve
+use Rattle.curve.specs.Answers.{fastestTaken}
+use Rattle.curve.specs.Promises.{Usable, FasterIsNoLess, IsLeast}
 use Rattle.published.specs.Tables.{depths}
 use Rattle.published.specs.Published.{ratesOf, percentsOf, isPublished}
 use Rattle.credit.specs.declared.Wanted.{Wanted}
-use Rattle.credit.specs.Credit.{depthReaching}
-use Rattle.credit.specs.Answers.{Sheet, lent, published, credit, size, answerOf, Given, given}
+use Rattle.credit.specs.Answers.{Sheet, lent, published, credit, size, answerOf, Given, refusedWith, given}
 
 -- what crediting a volume gives back, and what sizing a target gives back
 abbrev pub Credited : Sheet → Nutrient → Site → Mode → ℕ → ℕ → Given
@@ -58,15 +58,16 @@ abbrev pub isThere : Sheet → Nutrient → Bool
 isThere (lent ds rs ps) n = true
 isThere (published practice) n = isPublished practice n
 
--- A site record, a sheet and a rate that are refused nothing: not 14, 2 or 3, not 4 or 5, not 6 or 7, not 8 and not 15.
+-- What is refused nothing, in 01's words: a record of at most 32 sub-areas, each of which fits, of at most 1,000,000 in all; a sheet that is
+-- there and keeps the rules; a rate that it takes, within 10,000 (0 on a sheet without rates) and not below its slowest; and some
+-- impervious area. 15 does not arise: within these limits no load and no V(200) passes 10^13.
 pub record Accepted (sheet : Sheet) (n : Nutrient) (s : Site) (r : ℕ) : Type 0 where
-  pub total : Area
-  pub fine : judged s ≡ area.Granted total
+  pub count : s .count ≤ mostParts
+  pub each-fits : allFit (partsOf s) ≡ true
+  pub total : totalArea (partsOf s) ≤ mostArea
   pub there : isThere sheet n ≡ true
-  pub rated : curve.Usable (depthsIn sheet) (ratesIn sheet n) (percentsIn sheet n) r
+  pub usable : Usable (depthsIn sheet) (ratesIn sheet n) (percentsIn sheet n) r
   pub impervious : 0 < imperviousArea (partsOf s)
-  pub load-fits : loadOf (rates.exportRates n) (partsOf s) ≤ largest
-  pub volume-fits : volumeOf (partsOf s) highestDepth ≤ largest
 
 -- Demand 2, what is granted: a credit exactly where all is accepted and the volume is within the limit,
 abbrev pub CreditGrantedExactly : Type 0
@@ -81,6 +82,37 @@ SizeGrantedExactly =
     → (Sized sheet n s mode r target .answer ≡ granted)
     ↔ (Accepted sheet n s r × (target ≤ mostPercent) × (target ≤ percentOn sheet n mode r highestDepth))
 
+-- whatever is wanted is refused with this number, list and place, and zeros
+abbrev pub AllGive : Sheet → Nutrient → Site → Mode → ℕ → ℕ → ℕ → ℕ → Type 0
+AllGive sheet n s mode r number list place = (wanted : Wanted) → given (answerOf sheet wanted n s mode r) ≡ refusedWith number list place
+
+-- a record that is judged fine, with a sheet that is there
+pub record Begun (sheet : Sheet) (n : Nutrient) (s : Site) : Type 0 where
+  pub fine : areaGiven (judged s) .0 ≡ granted
+  pub there : isThere sheet n ≡ true
+
+-- What is refused, and in which order: "a site record handed to any call is judged before all else", then "credit and size try 4 or 5,
+-- then 6, 7, 8, 9, 15, 10". Each line supposes that nothing before it arises; 15 never does.
+pub record Refusals (sheet : Sheet) (n : Nutrient) (s : Site) (mode : Mode) (r : ℕ) : Type 0 where
+  pub judged-first : (areaGiven (judged s) .0 ≡ granted → ⊥) → AllGive sheet n s mode r (areaGiven (judged s) .0) 0 0
+  pub no-sheet : areaGiven (judged s) .0 ≡ granted → isThere sheet n ≡ false → AllGive sheet n s mode r (numberOf NoPublishedSheet) 0 0
+  pub unfit : Begun sheet n s → (list place : ℕ) → UnfitAt (depthsIn sheet) (ratesIn sheet n) (percentsIn sheet n) list place
+      → AllGive sheet n s mode r (numberOf UnfitSheet) list place
+  pub too-fast : Begun sheet n s → Rules (depthsIn sheet) (ratesIn sheet n) (percentsIn sheet n) → fastestTaken (ratesIn sheet n) < r
+      → AllGive sheet n s mode r (numberOf RateOutOfRange) 0 0
+  pub too-slow : Begun sheet n s → Rules (depthsIn sheet) (ratesIn sheet n) (percentsIn sheet n) → r ≤ fastestTaken (ratesIn sheet n)
+      → r < getD (ratesIn sheet n) 0 0 → AllGive sheet n s mode r (numberOf RateBelowSheet) 0 0
+  pub no-impervious : Begun sheet n s → Usable (depthsIn sheet) (ratesIn sheet n) (percentsIn sheet n) r → imperviousArea (partsOf s) ≡ 0
+      → AllGive sheet n s mode r (numberOf NoImperviousArea) 0 0
+  pub volume-past : Accepted sheet n s r → (v : ℕ) → largest < v → Credited sheet n s mode r v ≡ refusedWith (numberOf AmountOutOfRange) 0 0
+  pub target-past : Accepted sheet n s r → (target : ℕ) → mostPercent < target
+      → Sized sheet n s mode r target ≡ refusedWith (numberOf AmountOutOfRange) 0 0
+  pub unreachable : Accepted sheet n s r → (target : ℕ) → target ≤ mostPercent → percentOn sheet n mode r highestDepth < target
+      → Sized sheet n s mode r target ≡ refusedWith (numberOf TargetUnreachable) 0 0
+
+abbrev pub RefusedInOrder : Type 0
+RefusedInOrder = (sheet : Sheet) (n : Nutrient) (s : Site) (mode : Mode) (r : ℕ) → Refusals sheet n s mode r
+
 -- Demand 2, from volume to credit: "Loads, credits and design volumes equal those of the EPA document by its tables and equations."
 abbrev pub CreditIsByTheTables : Type 0
 CreditIsByTheTables =
@@ -92,13 +124,13 @@ CreditIsByTheTables =
     × (Credited sheet n s mode r v .volume ≡ v)
     × (Credited sheet n s mode r v .removed ≡ removedOf (Credited sheet n s mode r v .load) (Credited sheet n s mode r v .percent))
 
--- Demand 2, from target to volume.
+-- Demand 2, from target to volume: the depth is the least grid depth whose percent is at least the target.
 abbrev pub SizeIsByTheTables : Type 0
 SizeIsByTheTables =
     (sheet : Sheet) (n : Nutrient) (s : Site) (mode : Mode) (r target : ℕ)
     → Sized sheet n s mode r target .answer ≡ granted
     → (Sized sheet n s mode r target .load ≡ loadOf (rates.exportRates n) (partsOf s))
-    × (Sized sheet n s mode r target .depth ≡ depthReaching (percentOn sheet n mode r) target)
+    × IsLeast (percentOn sheet n mode r) target (Sized sheet n s mode r target .depth)
     × (Sized sheet n s mode r target .percent ≡ percentOn sheet n mode r (Sized sheet n s mode r target .depth))
     × (Sized sheet n s mode r target .volume ≡ volumeOf (partsOf s) (Sized sheet n s mode r target .depth))
     × (Sized sheet n s mode r target .removed ≡ removedOf (Sized sheet n s mode r target .load) (Sized sheet n s mode r target .percent))

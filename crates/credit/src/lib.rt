@@ -1,14 +1,15 @@
-// 01, "Crediting" and "Sizing": on a lent sheet and on a published practice.
+// 01, "Curve sheets": crediting and sizing, on a lent sheet and on a published practice.
 ghost use mathlib.Core.Path.{_≡_};
+ghost use mathlib.Core.Bool.{false};
 ghost use Prim.Native.Nat.{_≤_};
 ghost use Rattle.units.specs.Limits.{largest, mostPercent, highestDepth};
 ghost use Rattle.volume.specs.Areas.{areaAt, volumeFrom};
 ghost use Rattle.volume.specs.Answers.{depthOn};
-ghost use Rattle.credit.specs.Credit.{figuresOf, creditBy, sizedAt};
-ghost use Rattle.published.specs.Published.{listDepths, stretch, Standing};
+ghost use Rattle.credit.specs.Credit.{figuresOf, creditBy};
+ghost use Rattle.published.specs.Inner.{listDepths, stretch, Standing};
 ghost use Rattle.loads.specs.Rates.{exportRates};
 ghost use Rattle.credit.specs.Answers.{Sheet, onSheet, answerOf};
-ghost use Rattle.credit.specs.Working.{Work, depthIn, onPractice, unsurveyed, surveyed};
+ghost use Rattle.credit.specs.Inner.{Work, depthIn, sizedAt, onPractice, unsurveyed, surveyed};
 use curve::Mode;
 use curve::PercentAnswer;
 use curve::Reached;
@@ -135,6 +136,21 @@ fn sized(
     }
 }
 
+// A target that no depth reaches, or that is above 100 percent: what is tried in turn says which.
+fn missed(areas: Areas, load: Load, target: Percent) -> CreditAnswer
+    requires { ⌜ Work (areas .of) (load .0) 0 ⌝ }
+    ensures { λ r. ⌜ r ≡ sizedAt (load .0) (areaAt (areas .of) 0) (volumeFrom (areas .of)) (target .0) highestDepth 0 false ⌝ }
+{
+    sized(
+        areas,
+        load,
+        target,
+        Depth(Depth::HIGHEST),
+        Percent(0),
+        false,
+    )
+}
+
 // The depth of an answer; 0 where it is refused.
 fn depth_in(reached: DepthAnswer) -> Depth
     ensures { λ r. ⌜ r ≡ depthIn reached ⌝ }
@@ -186,14 +202,8 @@ fn size_by(
     let found = curve::reach(depths, rates, percents, mode, rate, target);
     match found {
         Reached::Found(depth, percent) => sized(areas, load, target, depth, percent, true),
-        Reached::Short => sized(
-            areas,
-            load,
-            target,
-            Depth(Depth::HIGHEST),
-            Percent(0),
-            false,
-        ),
+        Reached::TooHigh => missed(areas, load, target),
+        Reached::Short => missed(areas, load, target),
         Reached::BadSheet { list, place } => CreditAnswer::BadSheet { list, place },
         Reached::Refused(why) => CreditAnswer::Refused(why),
     }

@@ -1,6 +1,6 @@
 -- Laws of the answers: what each test makes of them, and what a granted one tells.
 -- Assumes nothing.
-use Prim.Native.Nat.{ℕ, _/_, _≤_, _<_}
+use Prim.Native.Nat.{ℕ, _≤_, _<_}
 use mathlib.Core.Bool.{Bool, true, false, cond}
 use mathlib.Core.List.{List}
 use mathlib.Core.Logic.{⊎-elim}
@@ -10,12 +10,12 @@ use native.Mathlib.Omega.{arith}
 use lib.Dec.{leb, ltb}
 use lib.ListN.{length, getD}
 use borrow.Author.Tests.{leb-true, le-leb, lt-leb, ltb-true, ltb-false, lt-ltb}
-use Rattle.laws.specs.First.{Once}
-use Rattle.laws.proofs.First.{first-le, first-fails, first-all}
+use Rattle.laws.proofs.First.{Once, first-le, first-fails, first-all}
 use Rattle.laws.proofs.Order.{passes-or-fails}
 use Rattle.refusal.specs.declared.Refusal.{Refusal}
 use Rattle.refusal.specs.declared.Refusal.the-variants.{RateOutOfRange, RateBelowSheet, AmountOutOfRange}
-use Rattle.units.specs.Limits.{mostRate, highestDepth, gridDepths}
+use Rattle.units.specs.declared.Percent.{Percent}
+use Rattle.units.specs.Limits.{mostRate, mostPercent, highestDepth, gridDepths}
 use Rattle.sheet.specs.declared.Verdict.{Verdict}
 use Rattle.sheet.specs.declared.Verdict.the-variants.{Fine, Unfit}
 use Rattle.sheet.specs.Sheet.{withoutRates, verdictOf}
@@ -23,18 +23,15 @@ use Rattle.sheet.specs.Rules.{Rules}
 use Rattle.sheet.proofs.Rules.{fine-rules}
 use Rattle.curve.specs.declared.Mode.{Mode}
 use Rattle.curve.specs.declared.Curves.{Curves}
-use Rattle.curve.specs.declared.Fraction.{Fraction}
 use Rattle.curve.specs.declared.Admission.{Admission}
 use Rattle.curve.specs.declared.Admission.the-variants as admission
-use Rattle.curve.specs.declared.ExactAnswer.{ExactAnswer}
-use Rattle.curve.specs.declared.ExactAnswer.the-variants as exact
 use Rattle.curve.specs.declared.PercentAnswer.the-variants as percent
 use Rattle.curve.specs.declared.Reached.the-variants as reach
-use Rattle.curve.specs.Curve.{curvesOf, exactAt, percentAt}
-use Rattle.curve.specs.Ready.{Rated, Ready}
-use Rattle.curve.specs.Answers.{fastestTaken, rated, judgedFirst, admissionOf, exactFrom, exactAnswer, percentAnswer, leastDepth, reachFrom, reachOf}
+use Rattle.curve.specs.Curve.{curvesOf, percentAt, depthReaching}
+use Rattle.curve.specs.Inner.{Rated, Ready}
+use Rattle.curve.specs.Answers.{fastestTaken, rated, judgedFirst, admissionOf, percentAnswer, reachOf}
 use Rattle.curve.proofs.Choices.{neighbours}
-use Rattle.curve.proofs.Rising.{under-some, percent-rises}
+use Rattle.curve.proofs.Rising.{percent-rises}
 
 -- The fastest rate taken.
 module _ (rs : List ℕ) {b : Bool} (told : b ≡ withoutRates rs) where
@@ -112,68 +109,36 @@ module _ (ds rs ps : List ℕ) (mode : Mode) (r : ℕ) {a : Admission} (told : a
   unfolding admissionOf
   admitted-ready e = judged-ready (verdictOf ds rs ps) mode r refl (sym told ∙ e)
 
-  -- The exact percent: 5, 6 and 7 are passed on, and 9 is tried.
-  pub exact-granted : (d : ℕ) {c : Curves} {f : Fraction} → a ≡ admission.Admitted c → d ≤ highestDepth → f ≡ exactAt ds ps c d
-      → exact.Granted f ≡ exactAnswer ds rs ps mode r d
-  unfolding exactAnswer
-  exact-granted d e h g = rw (sym told ∙ e, g) (simp (le-leb d highestDepth h))
+  -- 5, 6 and 7 are passed on by a call for a percent, and 9 is tried.
+  pub percent-granted : (d : ℕ) {c : Curves} {p : Percent} → a ≡ admission.Admitted c → d ≤ highestDepth → p .0 ≡ percentAt ds ps c d
+      → percent.Granted p ≡ percentAnswer ds rs ps mode r d
+  unfolding percentAnswer
+  percent-granted d e h g = rw (sym told ∙ e, sym g) (simp (le-leb d highestDepth h))
 
-  pub exact-deep : (d : ℕ) {c : Curves} → a ≡ admission.Admitted c → highestDepth < d → exact.Refused AmountOutOfRange ≡ exactAnswer ds rs ps mode r d
-  unfolding exactAnswer
-  exact-deep d e h = rw (sym told ∙ e) (simp (lt-leb d highestDepth h))
+  pub percent-deep : (d : ℕ) {c : Curves} → a ≡ admission.Admitted c → highestDepth < d → percent.Refused AmountOutOfRange ≡ percentAnswer ds rs ps mode r d
+  unfolding percentAnswer
+  percent-deep d e h = rw (sym told ∙ e) (simp (lt-leb d highestDepth h))
 
-  pub exact-bad : (d : ℕ) {list place : ℕ} → a ≡ admission.BadSheet list place → exact.BadSheet list place ≡ exactAnswer ds rs ps mode r d
-  unfolding exactAnswer
-  exact-bad d e = rw (sym told ∙ e)
+  pub percent-bad : (d : ℕ) {list place : ℕ} → a ≡ admission.BadSheet list place → percent.BadSheet list place ≡ percentAnswer ds rs ps mode r d
+  unfolding percentAnswer
+  percent-bad d e = rw (sym told ∙ e)
 
-  pub exact-refused : (d : ℕ) {q : Refusal} → a ≡ admission.Refused q → exact.Refused q ≡ exactAnswer ds rs ps mode r d
-  unfolding exactAnswer
-  exact-refused d e = rw (sym told ∙ e)
+  pub percent-refused : (d : ℕ) {q : Refusal} → a ≡ admission.Refused q → percent.Refused q ≡ percentAnswer ds rs ps mode r d
+  unfolding percentAnswer
+  percent-refused d e = rw (sym told ∙ e)
 
-  -- The least depth of a target: 5, 6 and 7 are passed on.
+  -- And by a call for the least depth of a target.
+  pub reach-high : (t : ℕ) {c : Curves} → a ≡ admission.Admitted c → mostPercent < t → reach.TooHigh ≡ reachOf ds rs ps mode r t
+  unfolding reachOf
+  reach-high t e h = rw (sym told ∙ e) (simp (lt-leb t mostPercent h))
+
   pub reach-bad : (t : ℕ) {list place : ℕ} → a ≡ admission.BadSheet list place → reach.BadSheet list place ≡ reachOf ds rs ps mode r t
-  unfolding reachFrom
+  unfolding reachOf
   reach-bad t e = rw (sym told ∙ e)
 
   pub reach-refused : (t : ℕ) {q : Refusal} → a ≡ admission.Refused q → reach.Refused q ≡ reachOf ds rs ps mode r t
-  unfolding reachFrom
+  unfolding reachOf
   reach-refused t e = rw (sym told ∙ e)
-
--- A granted fraction has a denominator.
-exact-under : (a : Admission) (ds rs ps : List ℕ) (mode : Mode) (r d : ℕ) {f : Fraction} → admissionOf ds rs ps mode r ≡ a
-    → exactFrom ds ps d a ≡ exact.Granted f → 0 < f .under
-exact-under (admission.Admitted c) ds rs ps mode r d {f} t e =
-    ⊎-elim
-    (λ (h : leb d highestDepth ≡ true).
-    let g : exact.Granted (exactAt ds ps c d) ≡ exact.Granted f = simp h at e in
-    let i : exactAt ds ps c d ≡ f = cc in
-    rw (sym i) (under-some (admitted-ready ds rs ps mode r (sym t) refl) d))
-    (λ (h : leb d highestDepth ≡ false).
-    let g : exact.Refused AmountOutOfRange ≡ exact.Granted f = simp h at e in
-    let z : _≡_ {A = ℕ} 0 1 = cc in
-    absurd (omega arith))
-    (passes-or-fails (leb d highestDepth))
-exact-under (admission.BadSheet list place) ds rs ps mode r d t e =
-    let z : _≡_ {A = ℕ} 0 1 = cc in
-    absurd (omega arith)
-exact-under (admission.Refused q) ds rs ps mode r d t e =
-    let z : _≡_ {A = ℕ} 0 1 = cc in
-    absurd (omega arith)
-
-module _ (ds rs ps : List ℕ) (mode : Mode) (r d : ℕ) {a : ExactAnswer} (told : a ≡ exactAnswer ds rs ps mode r d) where
-  pub granted-under : {f : Fraction} → a ≡ exact.Granted f → 0 < f .under
-  unfolding exactAnswer
-  granted-under e = exact-under (admissionOf ds rs ps mode r) ds rs ps mode r d refl (sym told ∙ e)
-
-  -- The percent is the exact one rounded.
-  pub percent-granted : {f : Fraction} → a ≡ exact.Granted f → percent.Granted (record { 0 = f .over / f .under }) ≡ percentAnswer ds rs ps mode r d
-  percent-granted e = rw (sym told ∙ e)
-
-  pub percent-bad : {list place : ℕ} → a ≡ exact.BadSheet list place → percent.BadSheet list place ≡ percentAnswer ds rs ps mode r d
-  percent-bad e = rw (sym told ∙ e)
-
-  pub percent-refused : {q : Refusal} → a ≡ exact.Refused q → percent.Refused q ≡ percentAnswer ds rs ps mode r d
-  percent-refused e = rw (sym told ∙ e)
 
 -- The least depth of a target. A percent that reaches it is not followed by one that does not.
 module _ {ds rs ps : List ℕ} {c : Curves} (s : Ready ds rs ps c) (t : ℕ) where
@@ -185,29 +150,29 @@ module _ {ds rs ps : List ℕ} {c : Curves} (s : Ready ds rs ps c) (t : ℕ) whe
       omega arith)
 
   -- There is one exactly where the target is not above the percent at depth 200.
-  pub least-reached : leastDepth ds ps c t ≤ highestDepth → t ≤ percentAt ds ps c highestDepth
+  pub least-reached : depthReaching (percentAt ds ps c) t ≤ highestDepth → t ≤ percentAt ds ps c highestDepth
   least-reached h =
-      let p = percent-rises s (leastDepth ds ps c t) highestDepth h in
-      let q = ltb-false (percentAt ds ps c (leastDepth ds ps c t)) t (first-fails (λ d. ltb (percentAt ds ps c d) t) gridDepths (omega arith)) in
+      let p = percent-rises s (depthReaching (percentAt ds ps c) t) highestDepth h in
+      let q = ltb-false (percentAt ds ps c (depthReaching (percentAt ds ps c) t)) t (first-fails (λ d. ltb (percentAt ds ps c d) t) gridDepths (omega arith)) in
       omega arith
 
-  pub least-missed : highestDepth < leastDepth ds ps c t → percentAt ds ps c highestDepth < t
+  pub least-missed : highestDepth < depthReaching (percentAt ds ps c) t → percentAt ds ps c highestDepth < t
   least-missed h =
       let l = first-le (λ d. ltb (percentAt ds ps c d) t) gridDepths in
       ltb-true (percentAt ds ps c highestDepth) t (first-all (λ d. ltb (percentAt ds ps c d) t) gridDepths (omega arith) highestDepth (omega arith))
 
 module _ (ds rs ps : List ℕ) (mode : Mode) (r t : ℕ) {a : Admission} {c : Curves} (told : a ≡ admissionOf ds rs ps mode r)
-    (e : a ≡ admission.Admitted c) {d : ℕ} (found : d ≡ leastDepth ds ps c t) where
+    (e : a ≡ admission.Admitted c) (l : t ≤ mostPercent) {d : ℕ} (found : d ≡ depthReaching (percentAt ds ps c) t) where
   pub reach-found : {p : ℕ} → d ≤ highestDepth → p ≡ percentAt ds ps c d
       → reach.Found (record { 0 = d }) (record { 0 = p }) ≡ reachOf ds rs ps mode r t
-  unfolding reachFrom
+  unfolding reachOf
   reach-found h f =
       rw (sym told ∙ e)
       (rw (f, found)
-      (simp (le-leb t (percentAt ds ps c highestDepth) (least-reached (admitted-ready ds rs ps mode r told e) t (rw found at h)))))
+      (simp (le-leb t mostPercent l, le-leb t (percentAt ds ps c highestDepth) (least-reached (admitted-ready ds rs ps mode r told e) t (rw found at h)))))
 
   pub reach-short : highestDepth < d → reach.Short ≡ reachOf ds rs ps mode r t
-  unfolding reachFrom
+  unfolding reachOf
   reach-short h =
       rw (sym told ∙ e)
-      (simp (lt-leb t (percentAt ds ps c highestDepth) (least-missed (admitted-ready ds rs ps mode r told e) t (rw found at h))))
+      (simp (le-leb t mostPercent l, lt-leb t (percentAt ds ps c highestDepth) (least-missed (admitted-ready ds rs ps mode r told e) t (rw found at h))))

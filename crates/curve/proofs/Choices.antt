@@ -15,6 +15,7 @@ use Rattle.laws.proofs.And.{and-left}
 use Rattle.laws.specs.First.{first}
 use Rattle.laws.proofs.First.{first-le, first-before, first-fails, first-same, first-mono}
 use Rattle.laws.proofs.Order.{lt-or-le}
+use Rattle.units.specs.declared.Rate.{Rate}
 use Rattle.units.specs.Limits.{mostRate}
 use Rattle.sheet.specs.Sheet.{withoutRates}
 use Rattle.sheet.specs.Rules.{InStep, Rules}
@@ -24,7 +25,7 @@ use Rattle.curve.specs.declared.Mode.the-variants.{Step, Mix}
 use Rattle.curve.specs.declared.Curves.{Curves}
 use Rattle.curve.specs.declared.Curves.the-variants.{One, Two}
 use Rattle.curve.specs.Curve.{segment, fastest, curvesOf}
-use Rattle.curve.specs.Ready.{Rated, Between, Neighbours}
+use Rattle.curve.specs.Inner.{Rated, Between, Neighbours}
 
 -- The rates reached: how many there are before the first above the site rate.
 abbrev reached : List ℕ → ℕ → ℕ
@@ -55,12 +56,12 @@ module _ {rs : List ℕ} {r : ℕ} (p : Rated rs r) where
       (λ (h : 1 ≤ reached rs r). h)
       (lt-or-le (reached rs r) 1)
 
-  pub segment-some : 1 ≤ segment rs (r + 1)
-  segment-some = rw (reached-is rs r) reached-some
+  pub segment-some : {s : ℕ} → s ≡ segment rs (r + 1) → 1 ≤ s
+  segment-some e = rw (e, reached-is rs r) reached-some
 
-  pub fastest-is : segment rs (r + 1) - 1 ≡ fastest rs r
+  pub fastest-is : {s : ℕ} → s ≡ segment rs (r + 1) → s - 1 ≡ fastest rs r
   unfolding fastest
-  fastest-is = rw (reached-is rs r)
+  fastest-is e = rw (e, reached-is rs r)
 
   -- The fastest is a rate of the sheet,
   pub fastest-in : fastest rs r < length rs
@@ -102,12 +103,12 @@ module _ {ds rs ps : List ℕ} (s : Rules ds rs ps) (k : ℕ) (h : k + 1 < lengt
   rates-apart =
       let e : k + 1 ≡ suc k = add-one k in
       rw e
-      (let p = stepped .rises (suc k) (rw e at h) in
+      (let p = stepped (suc k) (rw e at h) .rises in
       let q = one-next rs (length rs) k (rw e at h) in
       omega arith)
 
   pub rates-short : getD rs (k + 1) 0 ≤ mostRate
-  rates-short = stepped .small (k + 1) h
+  rates-short = stepped (k + 1) h .small
 
 -- What the two modes take.
 module _ (rs : List ℕ) (mode : Mode) (r : ℕ) {low : ℕ} (is : low ≡ fastest rs r) where
@@ -115,7 +116,7 @@ module _ (rs : List ℕ) (mode : Mode) (r : ℕ) {low : ℕ} (is : low ≡ faste
   unfolding curvesOf
   step-one e = rw (e, is)
 
-  pub mix-two : mode ≡ Mix → low + 1 < length rs → Two low (getD rs low 0) (getD rs (low + 1) 0) r ≡ curvesOf rs mode r
+  pub mix-two : mode ≡ Mix → low + 1 < length rs → Two low (record { 0 = getD rs low 0 }) (record { 0 = getD rs (low + 1) 0 }) (record { 0 = r }) ≡ curvesOf rs mode r
   unfolding curvesOf
   mix-two e h = rw (e, is) (simp (lt-ltb (fastest rs r + 1) (length rs) (rw is at h)))
 
@@ -151,5 +152,6 @@ neighbours {ds} {rs} {ps} {r} Mix s p =
 pub neighbour-one : (rs : List ℕ) {c : Curves} {j : ℕ} → c ≡ One j → Neighbours rs c → j < length rs
 neighbour-one rs e p = rw e at p
 
-pub neighbour-two : (rs : List ℕ) {c : Curves} {j slow fast r : ℕ} → c ≡ Two j slow fast r → Neighbours rs c → Between rs j slow fast r
+pub neighbour-two : (rs : List ℕ) {c : Curves} {j : ℕ} {slow fast r : Rate} → c ≡ Two j slow fast r → Neighbours rs c
+    → Between rs j (slow .0) (fast .0) (r .0)
 neighbour-two rs e p = rw e at p

@@ -18,7 +18,7 @@ use Rattle.curve.specs.declared.Mode.{Mode}
 use Rattle.curve.specs.declared.Mode.the-variants.{Step, Mix}
 use Rattle.curve.specs.declared.Fraction.{Fraction}
 use Rattle.curve.specs.Curve.{width, height, fastest, curvesOf, exactIn}
-use Rattle.curve.specs.Ready.{InSegment, Rated}
+use Rattle.curve.specs.Inner.{InSegment, Rated}
 use Rattle.curve.specs.Promises.{FasterIsNoLess}
 use Rattle.curve.proofs.Choices.{reached-mono, fastest-in, fastest-from, fastest-to}
 use Rattle.curve.proofs.Heights.{width-some}

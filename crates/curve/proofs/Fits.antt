@@ -4,7 +4,7 @@ use Prim.Native.Nat.{ℕ, _-_, _*_, _≤_}
 use native.Mathlib.Nat.{mul-le-mul}
 use native.Mathlib.Omega.{arith}
 use Rattle.units.specs.Limits.{mostRate}
-use Rattle.curve.specs.Ready.{mostHeight, OnLine}
+use Rattle.curve.specs.Inner.{mostHeight, OnLine}
 
 module _ {x₀ y₀ x₁ y₁ x : ℕ} (p : OnLine x₀ y₀ x₁ y₁ x) where
   -- the largest height of a line: a width of rates times a height

@@ -13,7 +13,7 @@ use Rattle.sheet.specs.Sheet.{previous}
 use Rattle.sheet.specs.Rules.{Rules}
 use Rattle.sheet.proofs.Rows.{row-place, row-rises}
 use Rattle.curve.specs.Curve.{width, height}
-use Rattle.curve.specs.Ready.{mostHeight, OnLine, InSegment}
+use Rattle.curve.specs.Inner.{mostHeight, OnLine, InSegment}
 
 module _ {ds rs ps : List ℕ} (s : Rules ds rs ps) where
   -- A rate's place and a depth's place are a percent's place.
@@ -26,12 +26,12 @@ module _ {ds rs ps : List ℕ} (s : Rules ds rs ps) where
   -- No segment is empty, and none is wider than the grid.
   pub width-some : {k : ℕ} → k < length ds → 0 < width ds k
   width-some {k} h =
-      let p = s .depths .rises k h in
+      let p = s .depths k h .rises in
       omega arith
 
   pub width-most : {k : ℕ} → k < length ds → width ds k ≤ highestDepth
   width-most {k} h =
-      let p = s .depths .small k h in
+      let p = s .depths k h .small in
       omega arith
 
 module _ {ds rs ps : List ℕ} {j k x : ℕ} (c : InSegment ds rs ps k x) (h : j < length rs) where
@@ -41,16 +41,16 @@ module _ {ds rs ps : List ℕ} {j k x : ℕ} (c : InSegment ds rs ps k x) (h : j
   -- What the line asks of its numbers.
   pub point-fits : OnLine (previous ds (length ds) k) (previous ps (length ds) (j * length ds + k)) (getD ds k 0) (getD ps (j * length ds + k) 0) x
   point-fits =
-      let small = c .rules .depths .small k (c .within) in
-      let rises = c .rules .percents .rises (j * length ds + k) place in
-      let most = c .rules .percents .small (j * length ds + k) place in
+      let small = c .rules .depths k (c .within) .small in
+      let rises = c .rules .percents (j * length ds + k) place .rises in
+      let most = c .rules .percents (j * length ds + k) place .small in
       record { from = c .from; to = c .to; short = omega arith; low = omega arith; high = omega arith }
 
   -- The curve is not above the percent at the end of its segment,
   pub height-below : height ds ps j k x ≤ width ds k * getD ps (j * length ds + k) 0
   unfolding height
   height-below =
-      let rises = c .rules .percents .rises (j * length ds + k) place in
+      let rises = c .rules .percents (j * length ds + k) place .rises in
       line-below (previous ds (length ds) k) (previous ps (length ds) (j * length ds + k)) (getD ds k 0) (getD ps (j * length ds + k) 0) x (getD ps (j * length ds + k) 0)
       (c .from) (c .to) (omega arith) (le-refl _)
 
@@ -58,13 +58,13 @@ module _ {ds rs ps : List ℕ} {j k x : ℕ} (c : InSegment ds rs ps k x) (h : j
   pub height-above : width ds k * previous ps (length ds) (j * length ds + k) ≤ height ds ps j k x
   unfolding height
   height-above =
-      let rises = c .rules .percents .rises (j * length ds + k) place in
+      let rises = c .rules .percents (j * length ds + k) place .rises in
       line-above (previous ds (length ds) k) (previous ps (length ds) (j * length ds + k)) (getD ds k 0) (getD ps (j * length ds + k) 0) x (previous ps (length ds) (j * length ds + k))
       (c .from) (c .to) (le-refl _) (omega arith)
 
   -- and at most 100 percent.
   pub height-share : height ds ps j k x ≤ width ds k * mostPercent
-  height-share = le-trans height-below (mul-le-mul-left (width ds k) (c .rules .percents .small (j * length ds + k) place))
+  height-share = le-trans height-below (mul-le-mul-left (width ds k) (c .rules .percents (j * length ds + k) place .small))
 
   pub height-most : height ds ps j k x ≤ mostHeight
   height-most = le-trans height-share (mul-le-mul-right mostPercent (width-most (c .rules) (c .within)))
@@ -95,6 +95,6 @@ height-rises {ds} {rs} {ps} {j} {k} {m} {x} {z} c d i h l =
     same e =
         rw (sym e)
         (mul-le-mul-right (width ds k)
-        (let rises = c .rules .percents .rises (j * length ds + k) (percent-place (c .rules) i (c .within)) in
+        (let rises = c .rules .percents (j * length ds + k) (percent-place (c .rules) i (c .within)) .rises in
         line-rises (previous ds (length ds) k) (previous ps (length ds) (j * length ds + k)) (getD ds k 0) (getD ps (j * length ds + k) 0) x z
         (omega arith) (c .from) h (rw (sym e) at (d .to))))

@@ -9,4 +9,5 @@ pub mod Faster
 pub mod Promises
 pub mod Sentences
 pub mod Granting
+pub mod Refusing
 pub mod Searching

@@ -7,6 +7,7 @@ use native.Mathlib.Nat.{mul-le-mul}
 use native.Mathlib.Omega.{arith}
 use lib.ListN.{length, getD}
 use Rattle.laws.specs.Line.{line}
+use Rattle.units.specs.declared.Rate.{Rate}
 use Rattle.units.specs.Limits.{mostRate, highestDepth}
 use Rattle.sheet.specs.Sheet.{previous}
 use Rattle.sheet.specs.Rules.{Rules}
@@ -14,7 +15,7 @@ use Rattle.curve.specs.declared.Curves.{Curves}
 use Rattle.curve.specs.declared.Curves.the-variants.{One, Two}
 use Rattle.curve.specs.declared.Fraction.{Fraction}
 use Rattle.curve.specs.Curve.{held, segment, width, height, exactIn, exactAt}
-use Rattle.curve.specs.Ready.{OnLine, InSegment, Between}
+use Rattle.curve.specs.Inner.{OnLine, InSegment, Between}
 use Rattle.curve.proofs.Segments.{held-last, segment-in, segment-from, segment-to}
 use Rattle.curve.proofs.Heights.{width-most, point-fits, height-most}
 
@@ -59,8 +60,9 @@ pub one-is : (ds ps : List ℕ) (j k x : ℕ) {a w : ℕ} → a ≡ height ds ps
 unfolding exactIn
 one-is ds ps j k x e f = rw (e, f)
 
-pub two-is : (ds ps : List ℕ) (j k x slow fast r : ℕ) {a b o w : ℕ} → a ≡ height ds ps j k x → b ≡ height ds ps (j + 1) k x → o ≡ line slow a fast b r
-    → w ≡ width ds k → _≡_ {A = Fraction} (record { over = o; under = w * (fast - slow) }) (exactIn ds ps (Two j slow fast r) k x)
+pub two-is : (ds ps : List ℕ) (j k x : ℕ) (slow fast r : Rate) {a b o w : ℕ} → a ≡ height ds ps j k x → b ≡ height ds ps (j + 1) k x
+    → o ≡ line (slow .0) a (fast .0) b (r .0) → w ≡ width ds k
+    → _≡_ {A = Fraction} (record { over = o; under = w * (fast .0 - slow .0) }) (exactIn ds ps (Two j slow fast r) k x)
 unfolding exactIn
 two-is ds ps j k x slow fast r e f g h = rw (g, e, f, h)
 

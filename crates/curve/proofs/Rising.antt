@@ -13,7 +13,7 @@ use Rattle.curve.specs.declared.Curves.{Curves}
 use Rattle.curve.specs.declared.Curves.the-variants.{One, Two}
 use Rattle.curve.specs.declared.Fraction.{Fraction}
 use Rattle.curve.specs.Curve.{held, segment, width, height, exactIn, exactAt, percentAt}
-use Rattle.curve.specs.Ready.{InSegment, Between, Neighbours, Ready}
+use Rattle.curve.specs.Inner.{InSegment, Between, Neighbours, Ready}
 use Rattle.curve.proofs.Segments.{held-mono, segment-mono}
 use Rattle.curve.proofs.Heights.{width-some, height-share, height-rises}
 use Rattle.curve.proofs.Parts.{in-segment}
@@ -36,10 +36,10 @@ module _ {ds rs ps : List ℕ} {k m x z : ℕ} (s : InSegment ds rs ps k x) (t :
   unfolding exactIn
   exact-rises (One j) n = height-rises s t n h l
   exact-rises (Two j slow fast r) n =
-      mixed (fast - r) (r - slow) (height ds ps j k x) (height ds ps (j + 1) k x) (height ds ps j m z) (height ds ps (j + 1) m z) (width ds k) (width ds m)
-      (fast - slow) (height-rises s t (before n) h l) (height-rises s t (n .next) h l)
+      mixed (fast .0 - r .0) (r .0 - slow .0) (height ds ps j k x) (height ds ps (j + 1) k x) (height ds ps j m z) (height ds ps (j + 1) m z) (width ds k) (width ds m)
+      (fast .0 - slow .0) (height-rises s t (before n) h l) (height-rises s t (n .next) h l)
     where
-      before : Between rs j slow fast r → j < length rs
+      before : Between rs j (slow .0) (fast .0) (r .0) → j < length rs
       before n = let i = n .next in omega arith
 
 module _ {ds rs ps : List ℕ} {k x : ℕ} (s : InSegment ds rs ps k x) where
@@ -55,11 +55,11 @@ module _ {ds rs ps : List ℕ} {k x : ℕ} (s : InSegment ds rs ps k x) where
   exact-share (One j) n = height-share s n
   exact-share (Two j slow fast r) n =
       le-trans
-      (line-below slow (height ds ps j k x) fast (height ds ps (j + 1) k x) r (width ds k * mostPercent) (n .from) (n .to)
+      (line-below (slow .0) (height ds ps j k x) (fast .0) (height ds ps (j + 1) k x) (r .0) (width ds k * mostPercent) (n .from) (n .to)
       (height-share s (before n)) (height-share s (n .next)))
-      (le-of-eq (sorted (fast - slow) (width ds k) mostPercent))
+      (le-of-eq (sorted (fast .0 - slow .0) (width ds k) mostPercent))
     where
-      before : Between rs j slow fast r → j < length rs
+      before : Between rs j (slow .0) (fast .0) (r .0) → j < length rs
       before n = let i = n .next in omega arith
 
       sorted : (a b c : ℕ) → a * (b * c) ≡ b * a * c
@@ -71,6 +71,9 @@ module _ {ds rs ps : List ℕ} {c : Curves} (s : Ready ds rs ps c) where
 
   pub under-some : (d : ℕ) → 0 < exactAt ds ps c d .under
   under-some d = exact-under (lies d) c (s .curves)
+
+  pub divided : (d : ℕ) {f : Fraction} → f ≡ exactAt ds ps c d → 0 < f .under
+  divided d e = rw e (under-some d)
 
   -- The percent never falls with depth,
   pub percent-rises : (d e : ℕ) → d ≤ e → percentAt ds ps c d ≤ percentAt ds ps c e

@@ -7,17 +7,18 @@ use mathlib.Core.Path.{_≡_, _∙_, ap}
 use native.Mathlib.Omega.{arith}
 use lib.Dec.{ltb, lit<}
 use borrow.Author.Tests.{lt-ltb, le-ltb}
-use Rattle.laws.specs.First.{middle}
-use Rattle.laws.proofs.Bisection.{Halving, halving-starts, halving-up, halving-down, halving-done, halving-met}
-use Rattle.units.specs.Limits.{highestDepth, gridDepths}
+use Rattle.laws.proofs.Bisection.{middle, Halving, halving-starts, halving-up, halving-down, halving-done, halving-met}
+use Rattle.units.specs.declared.Depth.{Depth}
+use Rattle.units.specs.declared.Percent.{Percent}
+use Rattle.units.specs.Limits.{mostPercent, highestDepth, gridDepths}
 use Rattle.curve.specs.declared.Mode.{Mode}
 use Rattle.curve.specs.declared.Curves.{Curves}
 use Rattle.curve.specs.declared.Admission.{Admission}
 use Rattle.curve.specs.declared.Admission.the-variants as admission
 use Rattle.curve.specs.declared.Reached.the-variants as reach
 use Rattle.curve.specs.Curve.{percentAt}
-use Rattle.curve.specs.Ready.{Ready}
-use Rattle.curve.specs.Answers.{admissionOf, Reaching, reachOf}
+use Rattle.curve.specs.Inner.{Ready, Reaching}
+use Rattle.curve.specs.Answers.{admissionOf, reachOf}
 use Rattle.curve.proofs.Answering.{reaches-once, reach-found, reach-short}
 
 -- the depths whose percent is below the target
@@ -68,9 +69,9 @@ module _ (ds ps : List ℕ) (c : Curves) (t trials low high p : ℕ) (s : Search
 
 -- What the search found is the answer of a call.
 module _ (ds rs ps : List ℕ) (mode : Mode) (r t : ℕ) {a : Admission} {c : Curves} (told : a ≡ admissionOf ds rs ps mode r)
-    (e : a ≡ admission.Admitted c) (d p : ℕ) (found : Reaching ds ps c t d p) where
-  pub found-reached : d ≤ highestDepth → reach.Found (record { 0 = d }) (record { 0 = p }) ≡ reachOf ds rs ps mode r t
-  found-reached h = reach-found ds rs ps mode r t told e (found .least) h (found .there h)
+    (e : a ≡ admission.Admitted c) (l : t ≤ mostPercent) (d : Depth) (p : Percent) (found : Reaching ds ps c t (d .0) (p .0)) where
+  pub found-reached : d .0 ≤ highestDepth → reach.Found d p ≡ reachOf ds rs ps mode r t
+  found-reached h = reach-found ds rs ps mode r t told e l (found .least) h (found .there h)
 
-  pub found-short : highestDepth < d → reach.Short ≡ reachOf ds rs ps mode r t
-  found-short h = reach-short ds rs ps mode r t told e (found .least) h
+  pub found-short : highestDepth < d .0 → reach.Short ≡ reachOf ds rs ps mode r t
+  found-short h = reach-short ds rs ps mode r t told e l (found .least) h

@@ -8,6 +8,7 @@ use lib.Dec.{leb, ltb}
 use lib.ListN.{length, getD}
 use Rattle.laws.specs.First.{first}
 use Rattle.laws.specs.Line.{line}
+use Rattle.units.specs.Limits.{gridDepths}
 use Rattle.sheet.specs.Sheet.{previous}
 use Rattle.curve.specs.declared.Mode.{Mode}
 use Rattle.curve.specs.declared.Mode.the-variants.{Step, Mix}
@@ -43,14 +44,14 @@ unfoldable pub curvesOf : List ℕ → Mode → ℕ → Curves
 curvesOf rs Step r = One (fastest rs r)
 curvesOf rs Mix r =
     cond (ltb (fastest rs r + 1) (length rs))
-    (Two (fastest rs r) (getD rs (fastest rs r) 0) (getD rs (fastest rs r + 1) 0) r)
+    (Two (fastest rs r) (record { 0 = getD rs (fastest rs r) 0 }) (record { 0 = getD rs (fastest rs r + 1) 0 }) (record { 0 = r }))
     (One (fastest rs r))
 
 -- the exact percent at depth x of segment k, before it is rounded
 unfoldable pub exactIn : List ℕ → List ℕ → Curves → ℕ → ℕ → Fraction
 exactIn ds ps (One j) k x = record { over = height ds ps j k x; under = width ds k }
 exactIn ds ps (Two j slow fast r) k x =
-    record { over = line slow (height ds ps j k x) fast (height ds ps (j + 1) k x) r; under = width ds k * (fast - slow) }
+    record { over = line (slow .0) (height ds ps j k x) (fast .0) (height ds ps (j + 1) k x) (r .0); under = width ds k * (fast .0 - slow .0) }
 
 abbrev pub exactAt : List ℕ → List ℕ → Curves → ℕ → Fraction
 exactAt ds ps c d = exactIn ds ps c (segment ds (held ds d)) (held ds d)
@@ -68,3 +69,7 @@ percentAt ds ps c d = roundedDown (exactAt ds ps c d)
 -- the percent of a sheet at a site rate and a depth
 abbrev pub percentOf : List ℕ → List ℕ → List ℕ → Mode → ℕ → ℕ → ℕ
 percentOf ds rs ps mode r d = percentAt ds ps (curvesOf rs mode r) d
+
+-- for sizing, the least grid depth whose percent is at least the target, 201 where there is none
+abbrev pub depthReaching : (ℕ → ℕ) → ℕ → ℕ
+depthReaching percent target = first (λ d. ltb (percent d) target) gridDepths

@@ -1,5 +1,5 @@
 pub mod Curve
-pub mod Ready
 pub mod Answers
 pub mod Promises
 pub mod Examples
+pub mod Inner

@@ -5,8 +5,8 @@ ghost use lib.ListN.{length, getD};
 ghost use Rattle.laws.specs.Line.{line};
 ghost use Rattle.sheet.specs.Sheet.{previous};
 ghost use Rattle.curve.specs.Curve.{held, segment, width, height, fastest, curvesOf, exactIn, exactAt, percentAt};
-ghost use Rattle.curve.specs.Ready.{OnLine, InSegment, Rated, Between, Ready};
-ghost use Rattle.curve.specs.Answers.{Reaching, fastestTaken, rated, admissionOf, exactAnswer, percentAnswer, reachOf};
+ghost use Rattle.curve.specs.Inner.{OnLine, InSegment, Rated, Between, Ready, Reaching};
+ghost use Rattle.curve.specs.Answers.{fastestTaken, rated, admissionOf, percentAnswer, reachOf};
 use refusal::Refusal;
 use sheet::Verdict;
 use units::Depth;
@@ -28,9 +28,9 @@ pub enum Curves {
     // The line between the curves of the rates slow and fast, at this place and the next, read at the site rate.
     Two {
         low: usize,
-        slow: u64,
-        fast: u64,
-        rate: u64,
+        slow: Rate,
+        fast: Rate,
+        rate: Rate,
     },
 }
 
@@ -47,21 +47,18 @@ pub enum Admission {
     Refused(Refusal),
 }
 
-pub enum ExactAnswer {
-    Granted(Fraction),
-    BadSheet { list: u64, place: usize },
-    Refused(Refusal),
-}
-
 pub enum PercentAnswer {
     Granted(Percent),
     BadSheet { list: u64, place: usize },
     Refused(Refusal),
 }
 
-// What is found for a target: the least grid depth and its percent, or that no depth reaches it.
+// What is found for a target: the least grid depth and its percent, or why there is none.
 pub enum Reached {
     Found(Depth, Percent),
+    // 9: the target is above 100 percent.
+    TooHigh,
+    // 10: no grid depth reaches the target.
     Short,
     BadSheet { list: u64, place: usize },
     Refused(Refusal),
@@ -76,15 +73,15 @@ fn line(x0: u64, y0: u64, x1: u64, y1: u64, x: u64) -> u64
 }
 
 // The depth at which the curve is read: the last depth where it lies beyond.
-fn held(depths: &[u64], depth: u64) -> u64
+fn held(depths: &[u64], depth: Depth) -> Depth
     requires { ⌜ 1 ≤ length (now depths) ⌝ }
-    ensures { λ r. ⌜ r ≡ held (now (depths .entry)) depth ⌝ }
+    ensures { λ r. ⌜ r .0 ≡ held (now (depths .entry)) (depth .0) ⌝ }
 {
     let last = depths[depths.len() - 1];
-    if depth <= last {
+    if depth.0 <= last {
         return depth;
     }
-    last
+    Depth(last)
 }
 
 // The place of the first of some rising numbers that is not below x: the segment of a depth, and the rates reached.
@@ -113,30 +110,30 @@ fn width(depths: &[u64], k: usize) -> u64
 }
 
 // The curve of the rate at place j, at depth x of segment k, times the segment's width.
-fn height(depths: &[u64], rates: &[u64], percents: &[u64], j: usize, k: usize, x: u64) -> u64
-    requires { ⌜ InSegment (now depths) (now rates) (now percents) k x ⌝ }
+fn height(depths: &[u64], rates: &[u64], percents: &[u64], j: usize, k: usize, x: Depth) -> u64
+    requires { ⌜ InSegment (now depths) (now rates) (now percents) k (x .0) ⌝ }
     requires { ⌜ j < length (now rates) ⌝ }
-    ensures { λ r. ⌜ r ≡ height (now (depths .entry)) (now (percents .entry)) j k x ⌝ }
+    ensures { λ r. ⌜ r ≡ height (now (depths .entry)) (now (percents .entry)) j k (x .0) ⌝ }
 {
     let n = depths.len();
     let i = j * n + k;
     let x0 = sheet::previous(depths, n, k);
     let y0 = sheet::previous(percents, n, i);
-    line(x0, y0, depths[k], percents[i], x)
+    line(x0, y0, depths[k], percents[i], x.0)
 }
 
 // The place of the fastest sheet rate not above the site rate.
-fn fastest(rates: &[u64], rate: u64) -> usize
-    requires { ⌜ Rated (now rates) rate ⌝ }
-    ensures { λ r. ⌜ r ≡ fastest (now (rates .entry)) rate ⌝ }
+fn fastest(rates: &[u64], rate: Rate) -> usize
+    requires { ⌜ Rated (now rates) (rate .0) ⌝ }
+    ensures { λ r. ⌜ r ≡ fastest (now (rates .entry)) (rate .0) ⌝ }
 {
-    segment(rates, rate + 1) - 1
+    segment(rates, rate.0 + 1) - 1
 }
 
 // The curves of a site rate in a mode.
-fn choose(rates: &[u64], mode: Mode, rate: u64) -> Curves
-    requires { ⌜ Rated (now rates) rate ⌝ }
-    ensures { λ r. ⌜ r ≡ curvesOf (now (rates .entry)) mode rate ⌝ }
+fn choose(rates: &[u64], mode: Mode, rate: Rate) -> Curves
+    requires { ⌜ Rated (now rates) (rate .0) ⌝ }
+    ensures { λ r. ⌜ r ≡ curvesOf (now (rates .entry)) mode (rate .0) ⌝ }
 {
     let low = fastest(rates, rate);
     match mode {
@@ -146,8 +143,8 @@ fn choose(rates: &[u64], mode: Mode, rate: u64) -> Curves
             if next < rates.len() {
                 return Curves::Two {
                     low: low,
-                    slow: rates[low],
-                    fast: rates[next],
+                    slow: Rate(rates[low]),
+                    fast: Rate(rates[next]),
                     rate: rate,
                 };
             }
@@ -157,10 +154,10 @@ fn choose(rates: &[u64], mode: Mode, rate: u64) -> Curves
 }
 
 // The exact percent by the curve of one rate.
-fn by_one(depths: &[u64], rates: &[u64], percents: &[u64], j: usize, k: usize, x: u64) -> Fraction
-    requires { ⌜ InSegment (now depths) (now rates) (now percents) k x ⌝ }
+fn by_one(depths: &[u64], rates: &[u64], percents: &[u64], j: usize, k: usize, x: Depth) -> Fraction
+    requires { ⌜ InSegment (now depths) (now rates) (now percents) k (x .0) ⌝ }
     requires { ⌜ j < length (now rates) ⌝ }
-    ensures { λ r. ⌜ r ≡ exactIn (now (depths .entry)) (now (percents .entry)) (Curves.One j) k x ⌝ }
+    ensures { λ r. ⌜ r ≡ exactIn (now (depths .entry)) (now (percents .entry)) (Curves.One j) k (x .0) ⌝ }
 {
     Fraction {
         over: height(depths, rates, percents, j, k, x),
@@ -174,31 +171,37 @@ fn by_two(
     rates: &[u64],
     percents: &[u64],
     j: usize,
-    slow: u64,
-    fast: u64,
-    rate: u64,
+    slow: Rate,
+    fast: Rate,
+    rate: Rate,
     k: usize,
-    x: u64,
+    x: Depth,
 ) -> Fraction
-    requires { ⌜ InSegment (now depths) (now rates) (now percents) k x ⌝ }
-    requires { ⌜ Between (now rates) j slow fast rate ⌝ }
-    ensures { λ r. ⌜ r ≡ exactIn (now (depths .entry)) (now (percents .entry)) (Curves.Two j slow fast rate) k x ⌝ }
+    requires { ⌜ InSegment (now depths) (now rates) (now percents) k (x .0) ⌝ }
+    requires { ⌜ Between (now rates) j (slow .0) (fast .0) (rate .0) ⌝ }
+    ensures { λ r. ⌜ r ≡ exactIn (now (depths .entry)) (now (percents .entry)) (Curves.Two j slow fast rate) k (x .0) ⌝ }
 {
     let below = height(depths, rates, percents, j, k, x);
     let above = height(depths, rates, percents, j + 1, k, x);
     Fraction {
-        over: line(slow, below, fast, above, rate),
-        under: width(depths, k) * (fast - slow),
+        over: line(slow.0, below, fast.0, above, rate.0),
+        under: width(depths, k) * (fast.0 - slow.0),
     }
 }
 
 // The exact percent at a depth.
-fn exact_at(depths: &[u64], rates: &[u64], percents: &[u64], curves: Curves, depth: u64) -> Fraction
+fn exact_at(
+    depths: &[u64],
+    rates: &[u64],
+    percents: &[u64],
+    curves: Curves,
+    depth: Depth,
+) -> Fraction
     requires { ⌜ Ready (now depths) (now rates) (now percents) curves ⌝ }
-    ensures { λ r. ⌜ r ≡ exactAt (now (depths .entry)) (now (percents .entry)) curves depth ⌝ }
+    ensures { λ r. ⌜ r ≡ exactAt (now (depths .entry)) (now (percents .entry)) curves (depth .0) ⌝ }
 {
     let x = held(depths, depth);
-    let k = segment(depths, x);
+    let k = segment(depths, x.0);
     match curves {
         Curves::One(j) => by_one(depths, rates, percents, j, k, x),
         Curves::Two {
@@ -211,40 +214,46 @@ fn exact_at(depths: &[u64], rates: &[u64], percents: &[u64], curves: Curves, dep
 }
 
 // The percent at a depth: the exact one rounded down.
-fn percent_at(depths: &[u64], rates: &[u64], percents: &[u64], curves: Curves, depth: u64) -> u64
+fn percent_at(
+    depths: &[u64],
+    rates: &[u64],
+    percents: &[u64],
+    curves: Curves,
+    depth: Depth,
+) -> Percent
     requires { ⌜ Ready (now depths) (now rates) (now percents) curves ⌝ }
-    ensures { λ r. ⌜ r ≡ percentAt (now (depths .entry)) (now (percents .entry)) curves depth ⌝ }
+    ensures { λ r. ⌜ r .0 ≡ percentAt (now (depths .entry)) (now (percents .entry)) curves (depth .0) ⌝ }
 {
     let f = exact_at(depths, rates, percents, curves, depth);
-    f.over / f.under
+    Percent(f.over / f.under)
 }
 
 // A depth that was searched for, and its percent.
 struct Lowest {
-    depth: u64,
-    percent: u64,
+    depth: Depth,
+    percent: Percent,
 }
 
 // The least grid depth whose percent is at least the target, with that percent, or 201: found in at most 8 percents.
-fn least(depths: &[u64], rates: &[u64], percents: &[u64], curves: Curves, target: u64) -> Lowest
+fn least(depths: &[u64], rates: &[u64], percents: &[u64], curves: Curves, target: Percent) -> Lowest
     requires { ⌜ Ready (now depths) (now rates) (now percents) curves ⌝ }
-    ensures { λ r. ⌜ Reaching (now (depths .entry)) (now (percents .entry)) curves target (r .depth) (r .percent) ⌝ }
+    ensures { λ r. ⌜ Reaching (now (depths .entry)) (now (percents .entry)) curves (target .0) (r .depth .0) (r .percent .0) ⌝ }
 {
     let mut low = Depth::LOWEST;
     let mut high = Depth::HIGHEST + 1;
-    let mut percent: u64 = 0;
+    let mut percent = Percent(0);
     let mut trials: u64 = 8;
     while 0 < trials {
         if high <= low {
             return Lowest {
-                depth: low,
+                depth: Depth(low),
                 percent,
             };
         }
         let middle = low + (high - low) / 2;
         trials -= 1;
-        let there = percent_at(depths, rates, percents, curves, middle);
-        if there < target {
+        let there = percent_at(depths, rates, percents, curves, Depth(middle));
+        if there.0 < target.0 {
             low = middle + 1;
         } else {
             high = middle;
@@ -252,69 +261,44 @@ fn least(depths: &[u64], rates: &[u64], percents: &[u64], curves: Curves, target
         }
     }
     Lowest {
-        depth: low,
+        depth: Depth(low),
         percent,
     }
 }
 
 // The fastest site rate that a sheet takes: 0 where it is without rates.
-fn fastest_taken(rates: &[u64]) -> u64
-    ensures { λ r. ⌜ r ≡ fastestTaken (now (rates .entry)) ⌝ }
+fn fastest_taken(rates: &[u64]) -> Rate
+    ensures { λ r. ⌜ r .0 ≡ fastestTaken (now (rates .entry)) ⌝ }
 {
     if sheet::without_rates(rates) {
-        return 0;
+        return Rate(0);
     }
-    units::MOST_RATE
+    Rate(units::MOST_RATE)
 }
 
 // Tries 6 and 7, and finds the curves of the site rate.
-fn by_rate(rates: &[u64], mode: Mode, rate: u64) -> Admission
+fn by_rate(rates: &[u64], mode: Mode, rate: Rate) -> Admission
     requires { ⌜ 1 ≤ length (now rates) ⌝ }
-    ensures { λ r. ⌜ r ≡ rated (now (rates .entry)) mode rate ⌝ }
+    ensures { λ r. ⌜ r ≡ rated (now (rates .entry)) mode (rate .0) ⌝ }
 {
     let most = fastest_taken(rates);
-    if most < rate {
+    if most.0 < rate.0 {
         return Admission::Refused(Refusal::RateOutOfRange);
     }
-    if rate < rates[0] {
+    if rate.0 < rates[0] {
         return Admission::Refused(Refusal::RateBelowSheet);
     }
     Admission::Admitted(choose(rates, mode, rate))
 }
 
 // Tries 5, 6 and 7, and finds the curves of the site rate: all that is known before a depth is.
-pub fn admit(depths: &[u64], rates: &[u64], percents: &[u64], mode: Mode, rate: Rate) -> Admission
+fn admit(depths: &[u64], rates: &[u64], percents: &[u64], mode: Mode, rate: Rate) -> Admission
     ensures { λ r. ⌜ r ≡ admissionOf (now (depths .entry)) (now (rates .entry)) (now (percents .entry)) mode (rate .0) ⌝ }
 {
     let verdict = sheet::judge(depths, rates, percents);
     match verdict {
-        Verdict::Fine => by_rate(rates, mode, rate.0),
+        Verdict::Fine => by_rate(rates, mode, rate),
         Verdict::Unfit { list, place } => Admission::BadSheet { list, place },
-    }
-}
-
-// The exact percent of a lent sheet at a site rate and a depth, before it is rounded.
-pub fn exact(
-    depths: &[u64],
-    rates: &[u64],
-    percents: &[u64],
-    mode: Mode,
-    rate: Rate,
-    depth: Depth,
-) -> ExactAnswer
-    ensures { λ r. ⌜ r ≡ exactAnswer (now (depths .entry)) (now (rates .entry)) (now (percents .entry)) mode (rate .0) (depth .0) ⌝ }
-{
-    let admission = admit(depths, rates, percents, mode, rate);
-    match admission {
-        Admission::Admitted(curves) => {
-            let d = depth.0;
-            if d <= Depth::HIGHEST {
-                return ExactAnswer::Granted(exact_at(depths, rates, percents, curves, d));
-            }
-            ExactAnswer::Refused(Refusal::AmountOutOfRange)
-        }
-        Admission::BadSheet { list, place } => ExactAnswer::BadSheet { list, place },
-        Admission::Refused(r) => ExactAnswer::Refused(r),
     }
 }
 
@@ -329,11 +313,16 @@ pub fn percent(
 ) -> PercentAnswer
     ensures { λ r. ⌜ r ≡ percentAnswer (now (depths .entry)) (now (rates .entry)) (now (percents .entry)) mode (rate .0) (depth .0) ⌝ }
 {
-    let answer = exact(depths, rates, percents, mode, rate, depth);
-    match answer {
-        ExactAnswer::Granted(f) => PercentAnswer::Granted(Percent(f.over / f.under)),
-        ExactAnswer::BadSheet { list, place } => PercentAnswer::BadSheet { list, place },
-        ExactAnswer::Refused(r) => PercentAnswer::Refused(r),
+    let admission = admit(depths, rates, percents, mode, rate);
+    match admission {
+        Admission::Admitted(curves) => {
+            if depth.0 <= Depth::HIGHEST {
+                return PercentAnswer::Granted(percent_at(depths, rates, percents, curves, depth));
+            }
+            PercentAnswer::Refused(Refusal::AmountOutOfRange)
+        }
+        Admission::BadSheet { list, place } => PercentAnswer::BadSheet { list, place },
+        Admission::Refused(r) => PercentAnswer::Refused(r),
     }
 }
 
@@ -351,9 +340,14 @@ pub fn reach(
     let admission = admit(depths, rates, percents, mode, rate);
     match admission {
         Admission::Admitted(curves) => {
-            let found = least(depths, rates, percents, curves, target.0);
-            if found.depth <= Depth::HIGHEST {
-                return Reached::Found(Depth(found.depth), Percent(found.percent));
+            if units::MOST_PERCENT < target.0 {
+                return Reached::TooHigh;
+            }
+            let found = least(depths, rates, percents, curves, target);
+            let depth = found.depth;
+            let percent = found.percent;
+            if depth.0 <= Depth::HIGHEST {
+                return Reached::Found(depth, percent);
             }
             Reached::Short
         }

@@ -12,9 +12,10 @@ use Rattle.text.specs.declared.Found.the-variants.{At, Nothing}
 use Rattle.text.specs.declared.Numeral.{Numeral}
 use Rattle.text.specs.declared.Numeral.the-variants as number
 use Rattle.text.specs.Part.{partOf}
-use Rattle.text.specs.Pieces.{space, lineFeed, comma, indexOf, hasOf, beforeOf, afterOf, pieces, joined}
+use Rattle.text.specs.Pieces.{space, lineFeed, comma, indexOf, beforeOf, afterOf, pieces, joined}
 use Rattle.text.specs.Words.{sameOf, behindOf, placeFrom, wordFrom}
 use Rattle.text.specs.Numbers.{numeralOf}
+use Rattle.text.proofs.Splitting.{hasOf}
 use Rattle.text.proofs.Between.{after-none}
 use Rattle.text.proofs.Front.{free, allFree}
 use Rattle.site.specs.declared.SubArea.{SubArea}
@@ -25,7 +26,7 @@ use Rattle.job.specs.declared.AreaLine.the-variants.{Is, Malformed}
 use Rattle.job.specs.Words.{landWords, coverWords, soilWords}
 use Rattle.job.specs.Lines.{linesOf, valueOf}
 use Rattle.job.specs.Areas.{subAreaFrom, subAreaOf}
-use Rattle.job.specs.Scanning.{countedAt, areaOn, Lined}
+use Rattle.job.specs.Inner.{countedAt, areaOn, Lined}
 use Rattle.job.proofs.Scanning.{field-place, field-there, field-rest, field-goes-on}
 use Rattle.job.proofs.Valued.{value-read, read-goes-on, numeral-told, counted-there, counted-after}
 

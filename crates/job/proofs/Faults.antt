@@ -15,24 +15,23 @@ use Rattle.text.specs.Pieces.{lineFeed, nextOf, startOf}
 use Rattle.text.proofs.Splitting.{next-within, start-within}
 use Rattle.job.specs.declared.Job.{Job}
 use Rattle.job.specs.declared.Reading.{Reading}
-use Rattle.job.specs.declared.JobAnswer.{JobAnswer}
 use Rattle.job.specs.declared.Span.{Span}
 use Rattle.job.specs.declared.JobAnswer.the-variants.{Granted, Refused}
-use Rattle.job.specs.Reading.{readingOf}
+use Rattle.job.specs.Reading.{readingOf, given}
 use Rattle.job.specs.Fault.{atTheEnd, lineSpan, faultIn, faultOf}
 
 module _ (s : List ℕ) (why : Refusal) (k : ℕ) {n : ℕ} {r : Span} (named : n ≡ numberOf why) where
   -- another refusal has no offending line
-  pub fault-none : (n ≡ numberOf MalformedText → ⊥) → r ≡ atTheEnd s → r ≡ faultIn s (Refused why k)
+  pub fault-none : (n ≡ numberOf MalformedText → ⊥) → r ≡ atTheEnd s → r ≡ faultIn s (given (Refused why k))
   unfolding faultIn
   fault-none other e = rw (ne-eqb (numberOf why) (numberOf MalformedText) (λ f. other (named ∙ f))) e
 
-  fault-line : n ≡ numberOf MalformedText → r ≡ lineSpan s k → r ≡ faultIn s (Refused why k)
+  fault-line : n ≡ numberOf MalformedText → r ≡ lineSpan s k → r ≡ faultIn s (given (Refused why k))
   unfolding faultIn
   fault-line one e = rw (eq-eqb (numberOf why) (numberOf MalformedText) (sym named ∙ one)) e
 
   -- line 0 is that of a text that is too long
-  pub fault-start : n ≡ numberOf MalformedText → k < 1 → r ≡ record { from = 0; to = 0 } → r ≡ faultIn s (Refused why k)
+  pub fault-start : n ≡ numberOf MalformedText → k < 1 → r ≡ record { from = 0; to = 0 } → r ≡ faultIn s (given (Refused why k))
   unfolding lineSpan
   fault-start one h e =
       let z : k ≡ 0 = omega arith in
@@ -46,7 +45,7 @@ module _ (s : List ℕ) (why : Refusal) (k : ℕ) {n : ℕ} {r : Span} (named : 
       → from ≡ startOf lineFeed s (k - 1)
       → to ≡ nextOf lineFeed s from
       → r ≡ record { from = from; to = to }
-      → r ≡ faultIn s (Refused why k)
+      → r ≡ faultIn s (given (Refused why k))
   unfolding lineSpan
   fault-there one h starts ends e =
       let z : k ≡ suc (k - 1) = omega arith in
@@ -58,20 +57,16 @@ pub fault-granted : (s : List ℕ) {found : Reading} {job : Job} {r : Span} → 
 unfolding faultIn
 fault-granted s e f g = g ∙ rw (← e, f)
 
-pub fault-refused : (s : List ℕ) {found : Reading} {why : Refusal} {k : ℕ} {r : Span} → found ≡ readingOf s → found .answer ≡ Refused why k → r ≡ faultIn s (Refused why k) → r ≡ faultOf s
+pub fault-refused : (s : List ℕ) {found : Reading} {why : Refusal} {k : ℕ} {r : Span} → found ≡ readingOf s → found .answer ≡ Refused why k → r ≡ faultIn s (given (Refused why k)) → r ≡ faultOf s
 fault-refused s e f g = g ∙ rw (← e, f)
 
 -- the offending part lies within the text
-span-within : (s : List ℕ) (answer : JobAnswer) → (faultIn s answer .from ≤ faultIn s answer .to) × (faultIn s answer .to ≤ length s)
+pub fault-within : (s : List ℕ) → (faultOf s .from ≤ faultOf s .to) × (faultOf s .to ≤ length s)
 unfolding faultIn lineSpan
-span-within s (Granted job) = (omega arith, omega arith)
-span-within s (Refused why k) = at (eqb (numberOf why) (numberOf MalformedText)) k
+fault-within s = at (eqb (given (readingOf s .answer) .0) (numberOf MalformedText)) (given (readingOf s .answer) .1)
   where
     at : (b : Bool) (k : ℕ) → (cond b (lineSpan s k) (atTheEnd s) .from ≤ cond b (lineSpan s k) (atTheEnd s) .to) × (cond b (lineSpan s k) (atTheEnd s) .to ≤ length s)
     at false k = (omega arith, omega arith)
     at true zero = (omega arith, omega arith)
     at true (suc k) =
         (omega arith, omega (arith, next-within lineFeed s (startOf lineFeed s k), start-within lineFeed s k))
-
-pub fault-within : (s : List ℕ) → (faultOf s .from ≤ faultOf s .to) × (faultOf s .to ≤ length s)
-fault-within s = span-within s (readingOf s .answer)

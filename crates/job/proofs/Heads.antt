@@ -25,7 +25,7 @@ use Rattle.job.specs.declared.HeadRead.the-variants.{Fine, Bad}
 use Rattle.job.specs.Words.{practiceWords, nutrientWords, modeWords, taskWords, nutrientAt, modeAt, taskAt}
 use Rattle.job.specs.Lines.{linesOf}
 use Rattle.job.specs.Head.{wordIn, numberIn, headFrom, headOf}
-use Rattle.job.specs.Scanning.{countedAt, Headed}
+use Rattle.job.specs.Inner.{countedAt, Headed}
 use Rattle.job.proofs.Valued.{WordLine, NumberLine, word-line, number-line}
 
 module _ (practice nutrient mode task : Found) (rate amount : Numeral) where

@@ -7,3 +7,4 @@ pub mod Walking
 pub mod Whole
 pub mod Faults
 pub mod Promises
+pub mod Refusals

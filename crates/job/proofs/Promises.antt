@@ -4,8 +4,6 @@ use Prim.Native.Nat.{ℕ, suc, _+_}
 use mathlib.Core.Bool.{Bool, true, false, cond, _&&_}
 use mathlib.Core.List.{List, [], _∷_}
 use mathlib.Core.Path.{_≡_, refl, _∙_, ap}
-use native.Mathlib.Omega.{arith}
-use borrow.Author.Tests.{eq-eqb}
 use lib.Dec.{eqb, ltb, leb}
 use lib.ListN.{length, drop, length-set}
 use Rattle.refusal.specs.declared.Refusal.the-variants.{MalformedText}
@@ -18,9 +16,9 @@ use Rattle.site.specs.declared.AreaAnswer.{AreaAnswer}
 use Rattle.site.specs.declared.AreaAnswer.the-variants as area
 use Rattle.site.specs.Parts.{emptySite}
 use Rattle.site.specs.Judging.{judged, afterJudging, given as givenArea}
-use Rattle.site.specs.Adding.{settled, addAnswer, addedTo}
+use Rattle.site.specs.Adding.{kept, settled, addAnswer, addedTo, added}
 use Rattle.site.specs.Promises.{InMemory}
-use Rattle.site.proofs.Promises.{empty-judged, holds-to}
+use Rattle.site.proofs.Promises.{given-granted, empty-judged, granted-holds}
 use Rattle.text.specs.Pieces.{lineFeed, startOf, endOf}
 use Rattle.text.proofs.Between.{piece-bytes, last-ends, empty-starts}
 use Rattle.job.specs.declared.Job.{Job}
@@ -47,13 +45,22 @@ abbrev Sound : Reading → Type 0
 Sound r = Beside (r .answer) (r .site)
 
 -- an add keeps the 32 places of a record
-sized-added : (s : Site) (total : ℕ) (p : SubArea) → InMemory s → InMemory (addedTo s total p .site)
-unfolding addedTo
-sized-added s total p z = told (addAnswer (s .count) total p)
+memory-kept : (s : Site) (p : SubArea) → InMemory s → InMemory (added s p .site)
+unfolding added addedTo
+memory-kept s p z = judging (judged s)
   where
     told : (x : AreaAnswer) → InMemory (settled s p x .site)
     told (area.Granted more) = length-set (s .parts) (s .count) p ∙ z
     told (area.Refused why) = z
+
+    judging : (x : AreaAnswer) → InMemory (afterJudging (kept s) (λ total. addedTo s total p) x .site)
+    judging (area.Granted total) = told (addAnswer (s .count) (total .0) p)
+    judging (area.Refused why) = z
+
+-- a granted add hands back a record that is judged fine
+fine-kept : (s : Site) (p : SubArea) (total : Area) → InMemory s → added s p .answer ≡ area.Granted total → judged (added s p .site) ≡ area.Granted total
+fine-kept s p total z e =
+    given-granted (judged (added s p .site)) (total .0) (granted-holds s p (total .0) z (ap givenArea e) .1)
 
 -- the areas end at a site that is judged fine, or are refused
 ended-sound : (job : Job) (rest : List ℕ) (k : ℕ) (s : Site) (total : Area) → judged s ≡ area.Granted total → Sound (endedAt job rest k s)
@@ -63,26 +70,24 @@ ended-sound job rest k s total j = at (eqb (length rest) 0 && leb 1 (s .count))
     at true = (total, j)
     at false = refl
 
-step-sound : (job : Job) (ls : List (List ℕ)) (k : ℕ) (s : Site) (total : Area) (found : AreaLine)
+step-sound : (job : Job) (ls : List (List ℕ)) (k : ℕ) (s : Site) (found : AreaLine)
     → InMemory s
-    → judged s ≡ area.Granted total
-    → ((t : Site) (more : Area) → InMemory t → judged t ≡ area.Granted more → Sound (areasFrom job ls (k + 1) t (more .0)))
-    → Sound (afterJudging (refusedAt k) (λ more. areasFrom job ls (k + 1) (addedLine s (total .0) found .site) more) (addedLine s (total .0) found .answer))
+    → ((t : Site) (total : Area) → InMemory t → judged t ≡ area.Granted total → Sound (areasFrom job ls (k + 1) t))
+    → Sound (afterJudging (refusedAt k) (λ total. areasFrom job ls (k + 1) (addedLine s found .site)) (addedLine s found .answer))
 unfolding addedLine
-step-sound job ls k s total Malformed z j later = refl
-step-sound job ls k s total (Is p) z j later = told (addedTo s (total .0) p .answer) refl
+step-sound job ls k s Malformed z later = refl
+step-sound job ls k s (Is p) z later = told (added s p .answer) refl
   where
-    told : (x : AreaAnswer) → addedTo s (total .0) p .answer ≡ x → Sound (afterJudging (refusedAt k) (λ more. areasFrom job ls (k + 1) (addedTo s (total .0) p .site) more) x)
-    told (area.Granted more) e =
-        later (addedTo s (total .0) p .site) more (sized-added s (total .0) p z) (holds-to s p total more z j e .1)
+    told : (x : AreaAnswer) → added s p .answer ≡ x → Sound (afterJudging (refusedAt k) (λ total. areasFrom job ls (k + 1) (added s p .site)) x)
+    told (area.Granted total) e = later (added s p .site) total (memory-kept s p z) (fine-kept s p total z e)
     told (area.Refused why) e = refl
 
-areas-sound : (job : Job) (ls : List (List ℕ)) (k : ℕ) (s : Site) (total : Area) → InMemory s → judged s ≡ area.Granted total → Sound (areasFrom job ls k s (total .0))
+areas-sound : (job : Job) (ls : List (List ℕ)) (k : ℕ) (s : Site) (total : Area) → InMemory s → judged s ≡ area.Granted total → Sound (areasFrom job ls k s)
 unfolding areasFrom
 areas-sound job [] k s total z j = ended-sound job [] k s total j
 areas-sound job (rest ∷ []) k s total z j = ended-sound job rest k s total j
 areas-sound job (line ∷ next ∷ others) k s total z j =
-    step-sound job (next ∷ others) k s total (areaIn (line ∷ next ∷ others)) z j
+    step-sound job (next ∷ others) k s (areaIn (line ∷ next ∷ others)) z
     (λ t more y i. areas-sound job (next ∷ others) (k + 1) t more y i)
 
 head-sound : (lines : List (List ℕ)) (h : HeadRead) → Sound (behindHead h lines)
@@ -101,24 +106,20 @@ beside s = at (ltb mostBytes (length s))
 pub site-beside : SiteBeside
 site-beside s = told (readingOf s .answer) (readingOf s .site) (beside s)
   where
-    told : (x : JobAnswer) (site : Site) → Beside x site → (given x .number ≡ granted → givenArea (judged site) .0 ≡ granted) × ((given x .number ≡ granted → ⊥) → site ≡ emptySite)
+    told : (x : JobAnswer) (site : Site) → Beside x site → (given x .0 ≡ granted → givenArea (judged site) .0 ≡ granted) × ((given x .0 ≡ granted → ⊥) → site ≡ emptySite)
     told (Granted job) site b = (λ e. ap (λ (a : AreaAnswer). givenArea a .0) (b .1), λ no. absurd (no refl))
     told (Refused why k) site b = (λ e. absurd (refusal-not-granted why e), λ no. b)
 
 -- refusal 1 in a line points to that line
-fault-span : (s : List ℕ) (k : ℕ) → given (readingOf s .answer) .number ≡ numberOf MalformedText → given (readingOf s .answer) .line ≡ suc k → faultOf s ≡ record { from = startOf lineFeed s k; to = endOf lineFeed s k }
+fault-span : (s : List ℕ) (k : ℕ) → given (readingOf s .answer) ≡ (numberOf MalformedText, suc k) → faultOf s ≡ record { from = startOf lineFeed s k; to = endOf lineFeed s k }
 unfolding faultIn lineSpan
-fault-span s k = told (readingOf s .answer)
-  where
-    told : (x : JobAnswer) → given x .number ≡ numberOf MalformedText → given x .line ≡ suc k → faultIn s x ≡ record { from = startOf lineFeed s k; to = endOf lineFeed s k }
-    told (Granted job) e f = absurd (omega arith)
-    told (Refused why j) e f = rw (eq-eqb (numberOf why) (numberOf MalformedText) e, f)
+fault-span s k e = rw e
 
 pub offending-line : OffendingLine
-offending-line s k e f = rw (fault-span s k e f) (piece-bytes lineFeed s k)
+offending-line s k e = rw (fault-span s k e) (piece-bytes lineFeed s k)
 
 pub missing-line : MissingLine
-missing-line s k e f last empty =
+missing-line s k e last empty =
     let ends = last-ends lineFeed s k last in
     let starts = empty-starts lineFeed s k empty in
-    fault-span s k e f ∙ (λ i. record { from = (starts ∙ ends) i; to = ends i })
+    fault-span s k e ∙ (λ i. record { from = (starts ∙ ends) i; to = ends i })

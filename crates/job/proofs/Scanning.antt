@@ -6,8 +6,9 @@ use mathlib.Core.Bool.{Bool, true, false, cond}
 use mathlib.Core.List.{List}
 use lib.ListN.{drop}
 use Rattle.text.specs.declared.Found.the-variants.{At, Nothing}
-use Rattle.text.specs.Pieces.{lineFeed, comma, hasOf, beforeOf, afterOf}
+use Rattle.text.specs.Pieces.{lineFeed, comma, beforeOf, afterOf}
 use Rattle.text.specs.Words.{placeFrom, wordFrom}
+use Rattle.text.proofs.Splitting.{hasOf}
 use Rattle.text.proofs.Front.{allFree, On, field-on, field-behind}
 use Rattle.text.proofs.Standing.{step-place, standing-place, standing-cut, step-after}
 

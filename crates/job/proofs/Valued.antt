@@ -13,16 +13,16 @@ use Rattle.text.specs.declared.Found.the-variants.{At, Nothing}
 use Rattle.text.specs.declared.Numeral.{Numeral}
 use Rattle.text.specs.declared.Numeral.the-variants as number
 use Rattle.text.specs.Part.{partOf}
-use Rattle.text.specs.Pieces.{lineFeed, indexOf, hasOf, beforeOf, afterOf, nextOf}
+use Rattle.text.specs.Pieces.{lineFeed, indexOf, beforeOf, afterOf, nextOf}
 use Rattle.text.specs.Words.{opensOf, behindOf, placeFrom, wordFrom}
 use Rattle.text.specs.Numbers.{numeralOf}
 use Rattle.text.proofs.Parts.{part-tail}
-use Rattle.text.proofs.Splitting.{pieces-step}
+use Rattle.text.proofs.Splitting.{hasOf, pieces-step}
 use Rattle.text.proofs.Front.{free, allFree, opens-cut, On, key-on, key-value}
 use Rattle.text.specs.declared.WordStep.{WordStep}
 use Rattle.job.specs.declared.NumberStep.{NumberStep}
 use Rattle.job.specs.Lines.{linesOf, valueOf}
-use Rattle.job.specs.Scanning.{countedAt}
+use Rattle.job.specs.Inner.{countedAt}
 use Rattle.text.proofs.Standing.{step-after, word-place}
 
 -- the value of an ended line, and of one that is not

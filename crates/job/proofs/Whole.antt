@@ -13,7 +13,7 @@ use Rattle.job.specs.declared.HeadRead.the-variants.{Fine, Bad}
 use Rattle.job.specs.declared.Reading.{Reading}
 use Rattle.job.specs.Lines.{linesOf}
 use Rattle.job.specs.Head.{headOf}
-use Rattle.job.specs.Scanning.{Headed}
+use Rattle.job.specs.Inner.{Headed}
 use Rattle.job.specs.Areas.{refusedAt, areasFrom}
 use Rattle.job.specs.Reading.{mostBytes, behindHead, readingOf}
 
@@ -30,6 +30,6 @@ module _ (s : List ℕ) where
   unfolding behindHead
   reading-bad h e f g = rw (reading-short h, ← e .read, f) g
 
-  pub reading-areas : {head : HeadStep} {job : Job} {r : Reading} → length s ≤ mostBytes → Headed s head → head .read ≡ Fine job → r ≡ areasFrom job (linesOf (drop (head .next) s)) 7 emptySite 0 → r ≡ readingOf s
+  pub reading-areas : {head : HeadStep} {job : Job} {r : Reading} → length s ≤ mostBytes → Headed s head → head .read ≡ Fine job → r ≡ areasFrom job (linesOf (drop (head .next) s)) 7 emptySite → r ≡ readingOf s
   unfolding behindHead
   reading-areas {job = job} h e f g = rw (reading-short h, ← e .read, f, ← e .behind job f) g

@@ -12,7 +12,7 @@ use Rattle.site.specs.declared.Site.{Site}
 use Rattle.site.specs.declared.Added.{Added}
 use Rattle.site.specs.Parts.{emptySite}
 use Rattle.site.specs.Judging.{afterJudging}
-use Rattle.site.specs.Adding.{addedTo, kept}
+use Rattle.site.specs.Adding.{added, kept}
 use Rattle.text.specs.declared.Found.{Found}
 use Rattle.text.specs.declared.Found.the-variants.{At, Nothing}
 use Rattle.text.specs.declared.Numeral.{Numeral}
@@ -51,9 +51,9 @@ abbrev pub areaIn : List (List ℕ) → AreaLine
 areaIn lines = subAreaOf (valueOf (bytes "area=") lines)
 
 -- a line's form before its adding
-unfoldable pub addedLine : Site → ℕ → AreaLine → Added
-addedLine s total line.Malformed = kept s MalformedText
-addedLine s total (line.Is p) = addedTo s total p
+unfoldable pub addedLine : Site → AreaLine → Added
+addedLine s line.Malformed = kept s MalformedText
+addedLine s (line.Is p) = added s p
 
 -- a refused reading: the number and the line, beside an empty site
 abbrev pub refusedAt : ℕ → Refusal → Reading
@@ -64,10 +64,10 @@ abbrev pub endedAt : Job → List ℕ → ℕ → Site → Reading
 endedAt job rest k s =
     cond (eqb (length rest) 0 && leb 1 (s .count)) (record { answer = Granted job; site = s }) (refusedAt k MalformedText)
 
--- Lines read as areas and added one by one to a site of the total area that is given, the first of them line k.
-unfoldable pub areasFrom : Job → List (List ℕ) → ℕ → Site → ℕ → Reading
-areasFrom job [] k s total = endedAt job [] k s
-areasFrom job (rest ∷ []) k s total = endedAt job rest k s
-areasFrom job (line ∷ next ∷ others) k s total =
-    let a = addedLine s total (areaIn (line ∷ next ∷ others)) in
-    afterJudging (refusedAt k) (λ more. areasFrom job (next ∷ others) (k + 1) (a .site) more) (a .answer)
+-- Lines read as areas and added one by one to a site, the first of them line k.
+unfoldable pub areasFrom : Job → List (List ℕ) → ℕ → Site → Reading
+areasFrom job [] k s = endedAt job [] k s
+areasFrom job (rest ∷ []) k s = endedAt job rest k s
+areasFrom job (line ∷ next ∷ others) k s =
+    let a = addedLine s (areaIn (line ∷ next ∷ others)) in
+    afterJudging (refusedAt k) (λ total. areasFrom job (next ∷ others) (k + 1) (a .site)) (a .answer)

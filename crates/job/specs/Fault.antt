@@ -8,10 +8,8 @@ use lib.Dec.{eqb}
 use Rattle.refusal.specs.declared.Refusal.the-variants.{MalformedText}
 use Rattle.refusal.specs.Refusal.{numberOf}
 use Rattle.text.specs.Pieces.{lineFeed, startOf, endOf}
-use Rattle.job.specs.declared.JobAnswer.{JobAnswer}
-use Rattle.job.specs.declared.JobAnswer.the-variants.{Granted, Refused}
 use Rattle.job.specs.declared.Span.{Span}
-use Rattle.job.specs.Reading.{readingOf}
+use Rattle.job.specs.Reading.{readingOf, given}
 
 -- an empty part at the end of the text
 abbrev pub atTheEnd : List ℕ → Span
@@ -22,10 +20,9 @@ unfoldable pub lineSpan : List ℕ → ℕ → Span
 lineSpan s zero = record { from = 0; to = 0 }
 lineSpan s (suc k) = record { from = startOf lineFeed s k; to = endOf lineFeed s k }
 
--- the offending line under refusal 1
-unfoldable pub faultIn : List ℕ → JobAnswer → Span
-faultIn s (Granted job) = atTheEnd s
-faultIn s (Refused why k) = cond (eqb (numberOf why) (numberOf MalformedText)) (lineSpan s k) (atTheEnd s)
+-- the offending line under refusal 1, by the number and the line that are given back
+unfoldable pub faultIn : List ℕ → ℕ × ℕ → Span
+faultIn s (number, k) = cond (eqb number (numberOf MalformedText)) (lineSpan s k) (atTheEnd s)
 
 abbrev pub faultOf : List ℕ → Span
-faultOf s = faultIn s (readingOf s .answer)
+faultOf s = faultIn s (given (readingOf s .answer))

@@ -31,15 +31,7 @@ headFrom (At p) (At n) (At m) Malformed task amount = Bad 4
 headFrom (At p) (At n) (At m) (Is r) Nothing amount = Bad 5
 headFrom (At p) (At n) (At m) (Is r) (At t) Malformed = Bad 6
 headFrom (At p) (At n) (At m) (Is r) (At t) (Is a) =
-    Fine
-    (record {
-      practice = p;
-      nutrient = nutrientAt n;
-      mode = modeAt m;
-      rate = record { 0 = r };
-      task = taskAt t;
-      amount = a;
-    })
+    Fine (record { practice = p; nutrient = nutrientAt n; mode = modeAt m; rate = record { 0 = r }; task = taskAt t; amount = a })
 
 unfoldable pub headOf : List (List ℕ) → HeadRead
 headOf lines =

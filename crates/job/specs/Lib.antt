@@ -3,6 +3,6 @@ pub mod Lines
 pub mod Head
 pub mod Areas
 pub mod Reading
-pub mod Scanning
 pub mod Fault
 pub mod Promises
+pub mod Inner

@@ -13,7 +13,6 @@ use Rattle.job.specs.declared.HeadRead.the-variants.{Fine, Bad}
 use Rattle.job.specs.declared.JobAnswer.{JobAnswer}
 use Rattle.job.specs.declared.JobAnswer.the-variants.{Granted, Refused}
 use Rattle.job.specs.declared.Reading.{Reading}
-use Rattle.job.specs.Words.{nutrientPlace, modePlace, taskPlace}
 use Rattle.job.specs.Lines.{linesOf}
 use Rattle.job.specs.Head.{headOf}
 use Rattle.job.specs.Areas.{refusedAt, areasFrom}
@@ -29,44 +28,13 @@ headLines = 6
 -- behind a head that reads, the areas from line 7 on
 unfoldable pub behindHead : HeadRead → List (List ℕ) → Reading
 behindHead (Bad k) lines = refusedAt k MalformedText
-behindHead (Fine job) lines = areasFrom job (drop headLines lines) (headLines + 1) emptySite 0
+behindHead (Fine job) lines = areasFrom job (drop headLines lines) (headLines + 1) emptySite
 
 -- the length first, then the lines, first to last
 unfoldable pub readingOf : List ℕ → Reading
 readingOf s = cond (ltb mostBytes (length s)) (refusedAt 0 MalformedText) (behindHead (headOf (linesOf s)) (linesOf s))
 
--- The paper's numbers of a reading, which stand beside its site. A case's number is its word's place.
-pub record Numbers : Type 0 where
-  pub number : ℕ
-  pub line : ℕ
-  pub practice : ℕ
-  pub nutrient : ℕ
-  pub mode : ℕ
-  pub rate : ℕ
-  pub task : ℕ
-  pub amount : ℕ
-
--- a refusal returns its number and its line, and zeros
-abbrev pub given : JobAnswer → Numbers
-given (Granted job) =
-    record {
-      number = granted;
-      line = 0;
-      practice = job .practice;
-      nutrient = nutrientPlace (job .nutrient);
-      mode = modePlace (job .mode);
-      rate = job .rate .0;
-      task = taskPlace (job .task);
-      amount = job .amount;
-    }
-given (Refused why k) =
-    record {
-      number = numberOf why;
-      line = k;
-      practice = 0;
-      nutrient = 0;
-      mode = 0;
-      rate = 0;
-      task = 0;
-      amount = 0;
-    }
+-- the paper's number and line of a reading: a refusal returns its number and its line, K
+abbrev pub given : JobAnswer → ℕ × ℕ
+given (Granted job) = (granted, 0)
+given (Refused why k) = (numberOf why, k)

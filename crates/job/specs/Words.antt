@@ -56,17 +56,3 @@ coverAt k = getD (cover.Imp ∷ cover.Per ∷ []) k cover.Imp
 
 abbrev pub soilAt : ℕ → Soil
 soilAt k = getD (soil.A ∷ soil.B ∷ soil.C ∷ soil.CD ∷ soil.D ∷ soil.U ∷ soil.NoSoil ∷ []) k soil.A
-
--- the place of a case
-abbrev pub nutrientPlace : Nutrient → ℕ
-nutrientPlace P = 0
-nutrientPlace N = 1
-
-abbrev pub modePlace : Mode → ℕ
-modePlace Step = 0
-modePlace Mix = 1
-
-abbrev pub taskPlace : Task → ℕ
-taskPlace Load = 0
-taskPlace Credit = 1
-taskPlace Size = 2

@@ -1,14 +1,13 @@
 // The area lines of a job, `area=USE,COVER,SOIL,AREA`, added one by one to a site.
 ghost use mathlib.Core.Path.{_≡_};
 ghost use Prim.Native.Nat.{_<_};
-ghost use Rattle.text.specs.Words.{Within};
 ghost use Rattle.job.specs.Words.{landAt, coverAt, soilAt};
 ghost use Rattle.site.specs.Parts.{emptySite};
 ghost use mathlib.Core.List.{[]};
 ghost use lib.ListN.{drop};
 ghost use Rattle.job.specs.Lines.{linesOf};
 ghost use Rattle.job.specs.Areas.{subAreaFrom, endedAt, areasFrom};
-ghost use Rattle.job.specs.Scanning.{Lined};
+ghost use Rattle.job.specs.Inner.{Within, Lined};
 use super::AreaLine;
 use super::AreaStep;
 use super::Job;
@@ -130,7 +129,7 @@ fn ended(job: Job, line: usize, site: Site) -> Reading
 
 // The areas of a text from a place on, at which line 7 starts.
 pub fn read_areas(job: Job, text: &[u8], from: usize) -> Reading
-    ensures { λ r. ⌜ r ≡ areasFrom job (linesOf (drop from (now (text .entry)))) 7 emptySite 0 ⌝ }
+    ensures { λ r. ⌜ r ≡ areasFrom job (linesOf (drop from (now (text .entry)))) 7 emptySite ⌝ }
 {
     let mut at = from;
     let mut line = 7;

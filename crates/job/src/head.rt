@@ -2,10 +2,10 @@
 ghost use mathlib.Core.Path.{_≡_};
 ghost use Prim.Native.Nat.{_<_};
 ghost use Rattle.text.specs.Pieces.{lineFeed};
-ghost use Rattle.text.specs.Words.{Within, behindOf, rowsOf, wordFrom};
+ghost use Rattle.text.specs.Words.{behindOf, rowsOf, wordFrom};
 ghost use Rattle.job.specs.Words.{nutrientAt, modeAt, taskAt};
 ghost use Rattle.job.specs.Head.{headFrom};
-ghost use Rattle.job.specs.Scanning.{countedAt, Headed};
+ghost use Rattle.job.specs.Inner.{Within, countedAt, Headed};
 use super::HeadRead;
 use super::HeadStep;
 use super::Job;

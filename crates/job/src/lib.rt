@@ -2,7 +2,7 @@
 ghost use mathlib.Core.Path.{_≡_};
 ghost use Rattle.text.specs.Part.{Part};
 ghost use Rattle.job.specs.Areas.{refusedAt};
-ghost use Rattle.job.specs.Reading.{readingOf};
+ghost use Rattle.job.specs.Reading.{readingOf, given};
 ghost use Rattle.job.specs.Fault.{atTheEnd, faultIn, faultOf};
 use curve::Mode;
 use refusal::Refusal;
@@ -141,7 +141,7 @@ fn at_the_end(text: &[u8]) -> Span
 
 // Where the offending line of a refused text lies.
 fn offending(text: &[u8], why: Refusal, line: usize) -> Span
-    ensures { λ r. ⌜ r ≡ faultIn (now (text .entry)) (JobAnswer.Refused why line) ⌝ }
+    ensures { λ r. ⌜ r ≡ faultIn (now (text .entry)) (given (JobAnswer.Refused why line)) ⌝ }
 {
     if refusal::number(why) != 1 {
         return at_the_end(text);

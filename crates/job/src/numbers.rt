@@ -1,6 +1,6 @@
 // A number at the end of a line.
 ghost use mathlib.Core.Path.{_≡_};
-ghost use Rattle.job.specs.Scanning.{countedAt};
+ghost use Rattle.job.specs.Inner.{countedAt};
 use super::NumberStep;
 use text::Numeral;
 

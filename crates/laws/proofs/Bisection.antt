@@ -1,12 +1,16 @@
 -- Bisection finds the first number at which a test fails, where the test, once failed, never passes again.
 -- Assumes nothing.
-use Prim.Native.Nat.{ℕ, suc, _+_, _-_, _^_, _≤_, _<_}
+use Prim.Native.Nat.{ℕ, suc, _+_, _-_, _/_, _^_, _≤_, _<_}
 use mathlib.Core.Bool.{Bool, true, false}
 use mathlib.Core.Path.{_≡_}
 use native.Mathlib.Nat.{le-refl}
 use native.Mathlib.Omega.{arith}
-use Rattle.laws.proofs.First.{first-le, fails-so-below, passes-so-above}
-use Rattle.laws.specs.First.{first, Once, middle}
+use Rattle.laws.proofs.First.{Once, first-le, fails-so-below, passes-so-above}
+use Rattle.laws.specs.First.{first}
+
+-- the number halfway from low to high
+abbrev pub middle : ℕ → ℕ → ℕ
+middle low high = low + (high - low) / 2
 
 -- A loop's turn: the first number at which the test fails lies from low to high, and so many trials are enough to find it.
 pub record Halving (test : ℕ → Bool) (n trials low high : ℕ) : Type 0 where

@@ -7,7 +7,11 @@ use mathlib.Core.Logic.{⊎-elim}
 use native.Mathlib.Nat.{eq-or-lt-of-le, le-antisymm}
 use native.Mathlib.Omega.{arith}
 use Rattle.laws.proofs.Order.{lt-or-le, never-both}
-use Rattle.laws.specs.First.{firstFrom, first, Once}
+use Rattle.laws.specs.First.{firstFrom, first}
+
+-- below n, a test that once failed never passes again
+abbrev pub Once : (ℕ → Bool) → ℕ → Type 0
+Once test n = (i j : ℕ) → i ≤ j → j < n → test j ≡ true → test i ≡ true
 
 -- both arms of a choice have what is asked: so has the choice
 cond-le : (b : Bool) {x y m : ℕ} → x ≤ m → y ≤ m → cond b x y ≤ m

@@ -1,7 +1,7 @@
 -- A table's rule, carried from one computed test over the whole table to each of its entries.
 -- Assumes nothing.
 use Prim.Native.Nat.{ℕ, zero, suc, _+_, _≤_, _<_}
-use mathlib.Core.Bool.{Bool, true}
+use mathlib.Core.Bool.{Bool, true, _&&_}
 use mathlib.Core.Logic.{⊎-elim}
 use mathlib.Core.List.{List, [], _∷_}
 use mathlib.Core.Path.{_≡_, refl, sym, _∙_, ap, subst}
@@ -12,7 +12,16 @@ use lib.ListN.{length, getD}
 use lib.Seq.{ext-getD}
 use borrow.Author.Tests.{eqb-true}
 use Rattle.laws.proofs.And.{and-left, and-right}
-use Rattle.laws.specs.Table.{everyFrom, every, valuesFrom, tableOf}
+use Rattle.laws.specs.Table.{valuesFrom, tableOf}
+
+-- the test passes at each entry and its place, places counted from k
+abbrev pub everyFrom : (ℕ → ℕ → Bool) → ℕ → List ℕ → Bool
+everyFrom test k [] = true
+everyFrom test k (x ∷ xs) = test k x && everyFrom test (suc k) xs
+
+-- the test passes at each entry and its place
+abbrev pub every : (ℕ → ℕ → Bool) → List ℕ → Bool
+every test xs = everyFrom test 0 xs
 
 carry-from : (test : ℕ → ℕ → Bool) (xs : List ℕ) (k : ℕ) → everyFrom test k xs ≡ true → (i : ℕ) → i < length xs → test (k + i) (getD xs i 0) ≡ true
 carry-from test [] k e i h = absurd (not-suc-le-zero h)

@@ -1,17 +1,7 @@
--- A test of each entry of a table, as one number of computation.
+-- The table of a function.
 -- Assumes nothing.
 use Prim.Native.Nat.{ℕ, suc}
-use mathlib.Core.Bool.{Bool, true, _&&_}
 use mathlib.Core.List.{List, [], _∷_}
-
--- the test passes at each entry and its place, places counted from k
-abbrev pub everyFrom : (ℕ → ℕ → Bool) → ℕ → List ℕ → Bool
-everyFrom test k [] = true
-everyFrom test k (x ∷ xs) = test k x && everyFrom test (suc k) xs
-
--- the test passes at each entry and its place
-abbrev pub every : (ℕ → ℕ → Bool) → List ℕ → Bool
-every test xs = everyFrom test 0 xs
 
 -- the values of a function at the n numbers from k on
 unfoldable pub valuesFrom : (ℕ → ℕ) → ℕ → ℕ → List ℕ

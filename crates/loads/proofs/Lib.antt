@@ -1,5 +1,5 @@
 pub mod Places
 pub mod Summing
 pub mod Answers
-pub mod Sample
+pub mod Permit
 pub mod Promises

@@ -10,9 +10,10 @@ use mir.Syntax.{w64}
 use mir.Val.{Fits}
 use Rattle.laws.specs.Sum.{sumOf}
 use Rattle.units.specs.Limits.{mostArea}
+use Rattle.site.specs.declared.SubArea.{SubArea}
 use Rattle.site.specs.declared.Site.{Site}
 use Rattle.site.specs.Parts.{partsOf, areaOf, blank, totalArea}
-use Rattle.site.specs.Judging.{Fine}
+use Rattle.site.specs.Inner.{Fine}
 use Rattle.site.proofs.Parts.{Whole, part-at}
 use Rattle.site.proofs.Sums.{Summed, sum-starts, sum-next, sum-ends}
 use Rattle.loads.specs.Rates.{tableMost, ratePlace}
@@ -32,28 +33,41 @@ module _ (rates : List ℕ) (s : Site) (i sum : ℕ) (r : Loading rates s i sum)
   pub load-ends : s .count ≤ i → sum ≡ loadOf rates (partsOf s)
   load-ends h = sum-ends (partLoad rates) s i sum (r .summed) h
 
-  -- the turn at a sub-area of the area a, whose rate is v
-  module _ (h : i < s .count) (v : ℕ) (l : v ≤ tableMost) where
-    abbrev a : ℕ
-    a = areaOf (getD (s .parts) i blank)
+  module _ (h : i < s .count) where
+    abbrev p : SubArea
+    p = getD (s .parts) i blank
 
-    area-left : totalArea (drop i (partsOf s)) ≡ a + totalArea (drop (i + 1) (partsOf s))
+    area-left : totalArea (drop i (partsOf s)) ≡ areaOf p + totalArea (drop (i + 1) (partsOf s))
     unfolding sumOf
     area-left = ap totalArea (part-at s i (r .summed .whole) h)
 
-    still-small : sum + a * v + tableMost * totalArea (drop (i + 1) (partsOf s)) ≤ tableMost * mostArea
-    still-small =
+    pub area-small : areaOf p ≤ mostArea
+    area-small =
         let e = area-left in
-        let m = mul-le-mul-left a l in
         let b = r .small in
         omega arith
 
-    pub product-fits : Fits w64 (a * v)
-    product-fits = let b = still-small in record { fits = omega arith }
+    -- the turn at a sub-area of the load v
+    module _ (v : ℕ) (e : v ≡ partLoad rates p) (l : v ≤ tableMost * areaOf p) where
+      still-small : sum + v + tableMost * totalArea (drop (i + 1) (partsOf s)) ≤ tableMost * mostArea
+      still-small =
+          let d = area-left in
+          let b = r .small in
+          omega arith
 
-    pub sum-fits : Fits w64 (sum + a * v)
-    sum-fits = let b = still-small in record { fits = omega arith }
+      pub sum-fits : Fits w64 (sum + v)
+      sum-fits = let b = still-small in record { fits = omega arith }
 
-    pub load-next : v ≡ getD rates (ratePlace (getD (s .parts) i blank)) 0 → Loading rates s (i + 1) (sum + a * v)
-    load-next e =
-        record { summed = sum-next (partLoad rates) s i sum (a * v) (r .summed) h (ap (λ (n : ℕ). a * n) e); small = still-small }
+      pub load-next : Loading rates s (i + 1) (sum + v)
+      load-next = record { summed = sum-next (partLoad rates) s i sum v (r .summed) h e; small = still-small }
+
+-- The area of a sub-area and its rate: the product is the sub-area's load, and fits.
+module _ (rates : List ℕ) (p : SubArea) (v : ℕ) (l : v ≤ tableMost) where
+  pub part-most : areaOf p * v ≤ tableMost * areaOf p
+  part-most = let m = mul-le-mul-left (areaOf p) l in omega arith
+
+  pub part-fits : areaOf p ≤ mostArea → Fits w64 (areaOf p * v)
+  part-fits h = let m = part-most in record { fits = omega arith }
+
+  pub part-is : v ≡ getD rates (ratePlace p) 0 → areaOf p * v ≡ partLoad rates p
+  part-is e = ap (λ (n : ℕ). areaOf p * n) e

@@ -1,4 +1,3 @@
 pub mod Rates
 pub mod Loads
-pub mod Sample
 pub mod Promises

@@ -3,10 +3,28 @@
 use Prim.Native.Nat.{ℕ, _≤_}
 use mathlib.Core.Path.{_≡_}
 use mathlib.Core.List.{List}
+use mathlib.Core.Logic.{_↔_}
+use Rattle.refusal.specs.Refusal.{granted}
+use Rattle.units.specs.declared.Nutrient.{Nutrient}
 use Rattle.units.specs.Limits.{mostPercent}
 use Rattle.site.specs.declared.Site.{Site}
+use Rattle.site.specs.Parts.{partsOf}
+use Rattle.site.specs.Judging.{judged}
+use Rattle.site.specs.Judging as site
 use Rattle.site.specs.Promises.{Alike}
-use Rattle.loads.specs.Loads.{loadUnder, removedOf}
+use Rattle.loads.specs.Rates.{exportRates}
+use Rattle.loads.specs.Loads.{loadOf, loadUnder, loadAnswer, removedOf, given}
+
+-- A load is granted exactly where the record is judged fine, and is then the sum of area times rate: 15 does not arise.
+abbrev pub LoadGrantedExactly : Type 0
+LoadGrantedExactly =
+    (n : Nutrient) (s : Site) (a : ℕ)
+    → (given (loadAnswer n s) ≡ (granted, a)) ↔ ((site.given (judged s) .0 ≡ granted) × (loadOf (exportRates n) (partsOf s) ≡ a))
+
+-- A record that is refused has its own number for an answer, and no load.
+abbrev pub LoadRefused : Type 0
+LoadRefused =
+    (n : Nutrient) (s : Site) → (site.given (judged s) .0 ≡ granted → ⊥) → given (loadAnswer n s) ≡ (site.given (judged s) .0, 0)
 
 -- What stands in the record past its count changes no load.
 abbrev pub PastCountUnread : Type 0

@@ -1,11 +1,12 @@
 // 01, "Site and load": the export rates of Tables 3-1 and 3-2, the load of a site, and the removed load.
 ghost use mathlib.Core.Path.{_≡_};
-ghost use Prim.Native.Nat.{_≤_};
+ghost use Prim.Native.Nat.{_*_, _≤_};
 ghost use lib.ListN.{getD};
-ghost use Rattle.site.specs.Parts.{partsOf};
-ghost use Rattle.site.specs.Judging.{Fine};
+ghost use Rattle.units.specs.Limits.{mostArea};
+ghost use Rattle.site.specs.Parts.{partsOf, areaOf};
+ghost use Rattle.site.specs.Inner.{Fine};
 ghost use Rattle.loads.specs.Rates.{tableMost, exportRates, imperviousPlace, soilPlace, perviousPlace, ratePlace};
-ghost use Rattle.loads.specs.Loads.{loadOf, withinLargest, loadUnder, loadAnswer, removedAnswer};
+ghost use Rattle.loads.specs.Loads.{partLoad, loadOf, withinLargest, loadUnder, loadAnswer, removedAnswer};
 use refusal::Refusal;
 use site::AreaAnswer;
 use site::Cover;
@@ -141,29 +142,39 @@ pub fn rate_of(part: SubArea, rates: &[u16; 16]) -> u64
     wide(rates[place])
 }
 
+// The area of a sub-area and its rate make a load.
+fn part_load(part: SubArea, rates: &[u16; 16]) -> Load
+    requires { ⌜ areaOf part ≤ mostArea ⌝ }
+    ensures { λ r. ⌜ (r .0 ≡ partLoad (now (rates .entry)) part) × (r .0 ≤ tableMost * areaOf part) ⌝ }
+{
+    let area = part.area;
+    let rate = rate_of(part, rates);
+    Load(area.0 * rate)
+}
+
 // The sum over the sub-areas of a record that is judged fine. With rates of 16 bits it is below 2^36.
-fn load_sum(site: Site, rates: &[u16; 16]) -> u64
+fn load_sum(site: Site, rates: &[u16; 16]) -> Load
     requires { ⌜ Fine site ⌝ }
-    ensures { λ r. ⌜ r ≡ loadOf (now (rates .entry)) (partsOf site) ⌝ }
+    ensures { λ r. ⌜ r .0 ≡ loadOf (now (rates .entry)) (partsOf site) ⌝ }
 {
     let count = site.count;
-    let mut sum: u64 = 0;
+    let mut sum = Load(0);
     let mut i = 0;
     while i < count {
         let part = site.parts[i];
-        let area = part.area;
-        sum += area.0 * rate_of(part, rates);
+        let more = part_load(part, rates);
+        sum = Load(sum.0 + more.0);
         i += 1;
     }
     sum
 }
 
 // A load past 10^13 is refused 15.
-fn within_largest(load: u64) -> LoadAnswer
-    ensures { λ r. ⌜ r ≡ withinLargest load ⌝ }
+fn within_largest(load: Load) -> LoadAnswer
+    ensures { λ r. ⌜ r ≡ withinLargest (load .0) ⌝ }
 {
-    if load <= units::LARGEST {
-        return LoadAnswer::Granted(Load(load));
+    if load.0 <= units::LARGEST {
+        return LoadAnswer::Granted(load);
     }
     LoadAnswer::Refused(Refusal::PastLargest)
 }

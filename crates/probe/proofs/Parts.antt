@@ -14,7 +14,7 @@ use Rattle.units.specs.Limits.{mostRate}
 use Rattle.probe.specs.declared.RateAnswer.{RateAnswer}
 use Rattle.probe.specs.declared.RateAnswer.the-variants.{Granted, Refused}
 use Rattle.probe.specs.Readings.{rounded, withinMost}
-use Rattle.probe.specs.Patterns.{Scale, Parts, partsAnswer}
+use Rattle.probe.specs.Inner.{Scale, Parts, partsAnswer}
 use Rattle.probe.proofs.Rounding.{rounded-rises, rounded-same, rounded-whole, rounded-half}
 
 pub granted-within : (h : ℕ) → h ≤ mostRate → Granted (record { 0 = h }) ≡ withinMost h

@@ -21,7 +21,7 @@ use Rattle.refusal.specs.declared.Refusal.the-variants.{ReadingNotARate}
 use Rattle.probe.specs.declared.RateAnswer.{RateAnswer}
 use Rattle.probe.specs.declared.RateAnswer.the-variants.{Granted, Refused}
 use Rattle.probe.specs.Readings.{answerIn}
-use Rattle.probe.specs.Patterns.{Scale, partsAnswer}
+use Rattle.probe.specs.Inner.{Scale, partsAnswer}
 use Rattle.probe.proofs.Rounding.{rounded-half}
 use Rattle.probe.proofs.Parts.{granted-within}
 use Rattle.probe.proofs.Values.{value-decides}

@@ -1,3 +1,3 @@
 pub mod Readings
-pub mod Patterns
 pub mod Promises
+pub mod Inner

@@ -3,7 +3,7 @@ ghost use mathlib.Core.Path.{_≡_};
 ghost use Prim.Native.Nat.{_<_};
 ghost use lib.Ieee.{binary32, ofBits};
 ghost use Rattle.probe.specs.Readings.{rounded, withinMost, answerIn, rateOf};
-ghost use Rattle.probe.specs.Patterns.{Scale, Parts, partsAnswer};
+ghost use Rattle.probe.specs.Inner.{Scale, Parts, partsAnswer};
 use refusal::Refusal;
 use units::MOST_RATE;
 use units::Rate;

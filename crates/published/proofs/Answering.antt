@@ -11,7 +11,8 @@ use Rattle.curve.specs.declared.PercentAnswer.the-variants as percent
 use Rattle.curve.specs.declared.Reached.{Reached}
 use Rattle.curve.specs.declared.Reached.the-variants as reach
 use Rattle.curve.specs.Answers.{percentAnswer, reachOf}
-use Rattle.published.specs.Published.{allSheets, listDepths, stretch, Standing, sheetPlace, percentPublished, reachPublished}
+use Rattle.published.specs.Published.{allSheets, percentPublished, reachPublished}
+use Rattle.published.specs.Inner.{listDepths, stretch, Standing, sheetPlace}
 use Rattle.published.specs.declared.Place.{Place}
 use Rattle.published.specs.declared.Place.the-variants.{At, Refused}
 use Rattle.published.proofs.Places.{found-published, found-standing, found-rates, found-percents, refused-why, refused-published, depths-in}

@@ -10,10 +10,9 @@ use native.Mathlib.Omega.{arith}
 use lib.Dec.{leb, ltb, eqb}
 use lib.ListN.{length, getD}
 use borrow.Author.Tests.{leb-true, ltb-false, eqb-true, lt-ltb}
-use Rattle.laws.specs.Table.{every}
 use Rattle.laws.proofs.And.{and-left, and-right}
 use Rattle.laws.proofs.Order.{lt-or-le}
-use Rattle.laws.proofs.Table.{carry}
+use Rattle.laws.proofs.Table.{every, carry}
 use Rattle.units.specs.declared.Nutrient.{Nutrient}
 use Rattle.units.specs.declared.Nutrient.the-variants.{P, N}
 use Rattle.curve.specs.Promises.{FasterIsNoLess}

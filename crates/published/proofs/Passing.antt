@@ -3,14 +3,14 @@
 use Prim.Native.Nat.{ℕ, _≤_, _<_}
 use mathlib.Core.Bool.{Bool, true, false, cond}
 use mathlib.Core.Logic.{⊎-elim}
-use mathlib.Core.Path.{_≡_, refl, sym}
+use mathlib.Core.Path.{_≡_, refl, sym, ap}
 use Rattle.laws.specs.First.{firstFrom}
 use Rattle.laws.proofs.Order.{lt-or-le, never-both}
 use Rattle.units.specs.declared.Nutrient.{Nutrient}
 use Rattle.units.specs.declared.Nutrient.the-variants.{P, N}
 use Rattle.sheet.specs.declared.Verdict.{Verdict}
 use Rattle.sheet.specs.declared.Verdict.the-variants.{Fine, Unfit}
-use Rattle.sheet.specs.Sheet.{previous, inStep, lengthsFit, withoutRates, offendingRate, verdictOf}
+use Rattle.sheet.specs.Sheet.{previous, inStep, lengthsFit, withoutRates, offendingRate, verdictOf, given}
 use Rattle.published.specs.Tables.{depths}
 use Rattle.published.specs.Published.{lastPractice, ratesOf, percentsOf, isPublished}
 use Rattle.published.specs.Promises.{EverySheetPasses, EveryPracticeHasOne}
@@ -39,7 +39,7 @@ every-sheet-passes practice nutrient e =
     ⊎-elim
     (λ (h : lastPractice < practice). absurd (never-both e (none-above nutrient practice h)))
     (λ (h : practice ≤ lastPractice).
-    fine-is (verdictOf depths (ratesOf practice nutrient) (percentsOf practice nutrient)) (simp e at (all-pass nutrient practice h)))
+    ap given (fine-is (verdictOf depths (ratesOf practice nutrient) (percentsOf practice nutrient)) (simp e at (all-pass nutrient practice h))))
     (lt-or-le lastPractice practice)
 
 pub every-practice-has-one : EveryPracticeHasOne

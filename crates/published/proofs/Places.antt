@@ -10,15 +10,15 @@ use lib.Dec.{leb, ltb, eqb, lit≤}
 use lib.ListN.{length, getD, List·getD-eq-default}
 use borrow.Author.Tests.{leb-true, le-leb, lt-leb, eqb-true}
 use Rattle.laws.proofs.And.{and-left, and-right}
-use Rattle.laws.specs.Table.{every}
-use Rattle.laws.proofs.Table.{carry}
+use Rattle.laws.proofs.Table.{every, carry}
 use Rattle.laws.proofs.Order.{lt-or-le, never-both}
 use Rattle.refusal.specs.declared.Refusal.{Refusal}
 use Rattle.refusal.specs.declared.Refusal.the-variants.{NoPublishedSheet}
 use Rattle.units.specs.declared.Nutrient.{Nutrient}
 use Rattle.units.specs.declared.Nutrient.the-variants.{P, N}
 use Rattle.published.specs.Tables.{depths, sheets}
-use Rattle.published.specs.Published.{lastPractice, ratesOf, percentsOf, isPublished, allSheets, listDepths, stretch, Standing, starts, counts, turns, turnOf, sheetStart, rateCount, placed, sheetPlace}
+use Rattle.published.specs.Published.{lastPractice, ratesOf, percentsOf, isPublished, allSheets}
+use Rattle.published.specs.Inner.{listDepths, stretch, Standing, starts, counts, turns, turnOf, sheetStart, rateCount, placed, sheetPlace}
 use Rattle.published.specs.declared.Place.{Place}
 use Rattle.published.specs.declared.Place.the-variants.{At, Refused}
 

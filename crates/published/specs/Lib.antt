@@ -1,3 +1,4 @@
 pub mod Tables
 pub mod Published
 pub mod Promises
+pub mod Inner

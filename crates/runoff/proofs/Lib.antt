@@ -1,3 +1,4 @@
 pub mod LineRule
 pub mod Answers
-pub mod Numbers
+pub mod Rows
+pub mod Promises

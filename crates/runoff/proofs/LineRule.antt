@@ -8,8 +8,8 @@ use native.Mathlib.Omega.{arith}
 use lib.Dec.{eqb, leb, lit<}
 use lib.ListN.{getD}
 use borrow.Author.Tests.{leb-true, ne-eqb}
-use Rattle.laws.proofs.Table.{carry, rises, length-table, table-at}
-use Rattle.laws.specs.Table.{every, valuesFrom}
+use Rattle.laws.proofs.Table.{every, carry, rises, length-table, table-at}
+use Rattle.laws.specs.Table.{valuesFrom}
 use Rattle.units.proofs.Columns.{place-most}
 use Rattle.units.specs.declared.Column.{Column}
 use Rattle.units.specs.Columns.{columnPlace}

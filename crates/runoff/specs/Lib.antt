@@ -1,1 +1,2 @@
 pub mod Runoff
+pub mod Promises

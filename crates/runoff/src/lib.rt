@@ -47,20 +47,19 @@ pub enum RunoffAnswer {
 pub fn entry(sheet: &[u16; 1005], column: Column, depth: Depth) -> RunoffAnswer
     ensures { λ r. ⌜ r ≡ entryOf (now (sheet .entry)) column depth ⌝ }
 {
-    let d = depth.0;
-    if d <= Depth::HIGHEST {
-        let at = place_of(column, d);
+    if depth.0 <= Depth::HIGHEST {
+        let at = place_of(column, depth);
         return RunoffAnswer::Granted(RunoffDepth(wide(sheet[at])));
     }
     RunoffAnswer::Refused(Refusal::AmountOutOfRange)
 }
 
 // Where the entry of a column and a grid depth stands in the sheet.
-fn place_of(column: Column, d: u64) -> usize
-    requires { ⌜ d ≤ highestDepth ⌝ }
-    ensures { λ r. ⌜ (r ≡ entryPlace column d) × (r < sheetLength) ⌝ }
+fn place_of(column: Column, depth: Depth) -> usize
+    requires { ⌜ depth .0 ≤ highestDepth ⌝ }
+    ensures { λ r. ⌜ (r ≡ entryPlace column (depth .0)) × (r < sheetLength) ⌝ }
 {
-    units::place(column) * GRID + d as usize
+    units::place(column) * GRID + depth.0 as usize
 }
 
 fn wide(x: u16) -> u64

@@ -4,3 +4,4 @@ pub mod Lengths
 pub mod Verdicts
 pub mod Rules
 pub mod Rows
+pub mod Promises

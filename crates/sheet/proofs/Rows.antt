@@ -40,7 +40,7 @@ module _ (xs : List ℕ) (n : ℕ) where
       (⊎-elim (λ (e : k ≡ m). rw e (le-refl _))
       (λ (l : k < m).
       let p = row-rises s j k m l (omega arith) (omega arith) in
-      let q = s .rises (j * n + m) (omega arith) in
+      let q = s (j * n + m) (omega arith) .rises in
       omega arith)
       (eq-or-lt-of-le (le-of-suc-le-suc a)))
 

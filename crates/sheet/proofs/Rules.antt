@@ -4,7 +4,7 @@ use Prim.Native.Nat.{ℕ, _+_, _*_, _≤_, _<_}
 use mathlib.Core.Bool.{Bool, true, false, cond}
 use mathlib.Core.List.{List}
 use mathlib.Core.Logic.{_⊎_, inl, inr, ⊎-elim}
-use mathlib.Core.Path.{_≡_, refl, ap}
+use mathlib.Core.Path.{_≡_, refl}
 use native.Mathlib.Nat.{le-antisymm, le-of-eq, le-refl}
 use native.Mathlib.Omega.{arith}
 use lib.Dec.{leb, ltb}
@@ -13,14 +13,11 @@ use borrow.Author.Tests.{leb-true, le-leb, ltb-false, le-ltb, eq-eqb}
 use Rattle.laws.proofs.And.{and-left, and-right}
 use Rattle.laws.proofs.First.{first-le, first-all, first-is}
 use Rattle.laws.proofs.Order.{passes-or-fails, never-both}
-use Rattle.refusal.specs.declared.Refusal.the-variants.{UnfitSheet}
-use Rattle.refusal.specs.Refusal.{granted}
-use Rattle.refusal.proofs.Numbers.{refusal-not-granted}
 use Rattle.units.specs.Limits.{mostRate, mostPercent, highestDepth}
 use Rattle.sheet.specs.declared.Verdict.{Verdict}
 use Rattle.sheet.specs.declared.Verdict.the-variants.{Fine, Unfit}
-use Rattle.sheet.specs.Sheet.{mostDepths, mostRates, previous, inStep, offending, offendingDepth, offendingRate, offendingPercent, lengthsFit, withoutRates, listJudged, verdictOf, given}
-use Rattle.sheet.specs.Rules.{InStep, Rules, FineExactly}
+use Rattle.sheet.specs.Sheet.{mostDepths, mostRates, previous, inStep, offending, offendingDepth, offendingRate, offendingPercent, lengthsFit, withoutRates, listJudged, verdictOf}
+use Rattle.sheet.specs.Rules.{StepAt, InStep, Rules}
 use Rattle.sheet.proofs.Lengths.{lengths-kept}
 
 -- No unfit verdict is a fine one.
@@ -46,42 +43,42 @@ none list place count next e =
 
 -- One list: no place offends exactly where every number is in step.
 module _ (xs : List ℕ) (n gap most : ℕ) where
-  in-step-is : (k : ℕ) → inStep gap most (previous xs n k) (getD xs k 0) ≡ true
-      → (previous xs n k + gap ≤ getD xs k 0) × (getD xs k 0 ≤ most)
+  pub in-step-is : (k : ℕ) → inStep gap most (previous xs n k) (getD xs k 0) ≡ true → StepAt xs n gap most k
   unfolding inStep
-  in-step-is k e = (
-    leb-true (previous xs n k + gap) (getD xs k 0) (and-left (leb (previous xs n k + gap) (getD xs k 0)) (leb (getD xs k 0) most) e),
-    leb-true (getD xs k 0) most (and-right (leb (previous xs n k + gap) (getD xs k 0)) (leb (getD xs k 0) most) e),
-  )
+  in-step-is k e =
+      record {
+        rises = leb-true (previous xs n k + gap) (getD xs k 0) (and-left (leb (previous xs n k + gap) (getD xs k 0)) (leb (getD xs k 0) most) e);
+        small = leb-true (getD xs k 0) most (and-right (leb (previous xs n k + gap) (getD xs k 0)) (leb (getD xs k 0) most) e);
+      }
 
-  is-in-step : (k : ℕ) → previous xs n k + gap ≤ getD xs k 0 → getD xs k 0 ≤ most → inStep gap most (previous xs n k) (getD xs k 0) ≡ true
+  pub is-in-step : (k : ℕ) → StepAt xs n gap most k → inStep gap most (previous xs n k) (getD xs k 0) ≡ true
   unfolding inStep
-  is-in-step k p q = simp (le-leb (previous xs n k + gap) (getD xs k 0) p, le-leb (getD xs k 0) most q)
+  is-in-step k p = simp (le-leb (previous xs n k + gap) (getD xs k 0) (p .rises), le-leb (getD xs k 0) most (p .small))
 
-  none-offends : length xs ≤ offending xs n gap most → InStep xs n gap most
-  none-offends h = record { rises = λ k l. in-step-is k (passes k l) .0; small = λ k l. in-step-is k (passes k l) .1 }
+  pub none-offends : length xs ≤ offending xs n gap most → InStep xs n gap most
+  none-offends h k l = in-step-is k (passes k l)
     where
       passes : (k : ℕ) → k < length xs → inStep gap most (previous xs n k) (getD xs k 0) ≡ true
       passes =
           first-all (λ k. inStep gap most (previous xs n k) (getD xs k 0)) (length xs)
           (le-antisymm (first-le (λ k. inStep gap most (previous xs n k) (getD xs k 0)) (length xs)) h)
 
-  in-step-none : InStep xs n gap most → length xs ≤ offending xs n gap most
+  pub in-step-none : InStep xs n gap most → length xs ≤ offending xs n gap most
   in-step-none s =
       le-of-eq
       (first-is (λ k. inStep gap most (previous xs n k) (getD xs k 0)) (length xs) (length xs) (le-refl _)
-      (λ k l. is-in-step k (s .rises k l) (s .small k l))
+      (λ k l. is-in-step k (s k l))
       (λ m. absurd (omega arith)))
 
 module _ (rs : List ℕ) where
-  rates-kept : length rs ≤ offendingRate rs → (withoutRates rs ≡ true) ⊎ InStep rs (length rs) 1 mostRate
+  pub rates-kept : length rs ≤ offendingRate rs → (withoutRates rs ≡ true) ⊎ InStep rs (length rs) 1 mostRate
   unfolding offendingRate
   rates-kept h =
       ⊎-elim (λ (e : withoutRates rs ≡ true). inl e)
       (λ (e : withoutRates rs ≡ false). inr (none-offends rs (length rs) 1 mostRate (simp e at h)))
       (passes-or-fails (withoutRates rs))
 
-  kept-rates : (withoutRates rs ≡ true) ⊎ InStep rs (length rs) 1 mostRate → length rs ≤ offendingRate rs
+  pub kept-rates : (withoutRates rs ≡ true) ⊎ InStep rs (length rs) 1 mostRate → length rs ≤ offendingRate rs
   unfolding offendingRate
   kept-rates s =
       ⊎-elim (λ (e : withoutRates rs ≡ true). simp e (le-refl _))
@@ -128,10 +125,3 @@ module _ (ds rs ps : List ℕ) where
         le-ltb (offendingRate rs) (length rs) (kept-rates rs (s .rates)),
         le-ltb (offendingPercent (length ds) ps) (length ps) (in-step-none ps (length ds) 0 mostPercent (s .percents)),
       )
-
-pub fine-exactly : FineExactly
-fine-exactly ds rs ps = (λ e. fine-rules ds rs ps (told (verdictOf ds rs ps) e), λ r. ap (λ (v : Verdict). given v .0) (rules-fine ds rs ps r))
-  where
-    told : (v : Verdict) → given v .0 ≡ granted → v ≡ Fine
-    told Fine e = refl
-    told (Unfit list place) e = absurd (refusal-not-granted UnfitSheet e)

@@ -1,3 +1,4 @@
 pub mod Sheet
 pub mod Rules
+pub mod Promises
 pub mod Examples

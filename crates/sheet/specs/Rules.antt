@@ -3,17 +3,20 @@
 use Prim.Native.Nat.{ℕ, _+_, _*_, _≤_, _<_}
 use mathlib.Core.Bool.{true}
 use mathlib.Core.List.{List}
-use mathlib.Core.Logic.{_⊎_, _↔_}
+use mathlib.Core.Logic.{_⊎_}
 use mathlib.Core.Path.{_≡_}
 use lib.ListN.{length, getD}
-use Rattle.refusal.specs.Refusal.{granted}
 use Rattle.units.specs.Limits.{mostRate, mostPercent, highestDepth}
-use Rattle.sheet.specs.Sheet.{mostDepths, mostRates, previous, withoutRates, verdictOf, given}
+use Rattle.sheet.specs.Sheet.{mostDepths, mostRates, previous, withoutRates}
 
--- every number, in rows of n, is at least `gap` above the one before it, 0 at the start of a row, and at most `most`
-pub record InStep (xs : List ℕ) (n gap most : ℕ) : Type 0 where
-  pub rises : (k : ℕ) → k < length xs → previous xs n k + gap ≤ getD xs k 0
-  pub small : (k : ℕ) → k < length xs → getD xs k 0 ≤ most
+-- the number at place k, in rows of n, is at least `gap` above the one before it, 0 at the start of a row, and at most `most`
+pub record StepAt (xs : List ℕ) (n gap most k : ℕ) : Type 0 where
+  pub rises : previous xs n k + gap ≤ getD xs k 0
+  pub small : getD xs k 0 ≤ most
+
+-- every number of a list is
+abbrev pub InStep : List ℕ → ℕ → ℕ → ℕ → Type 0
+InStep xs n gap most = (k : ℕ) → k < length xs → StepAt xs n gap most k
 
 pub record Rules (ds rs ps : List ℕ) : Type 0 where
   pub some-depths : 1 ≤ length ds
@@ -24,7 +27,3 @@ pub record Rules (ds rs ps : List ℕ) : Type 0 where
   pub depths : InStep ds (length ds) 1 highestDepth
   pub rates : (withoutRates rs ≡ true) ⊎ InStep rs (length rs) 1 mostRate
   pub percents : InStep ps (length ds) 0 mostPercent
-
--- A sheet is judged fine exactly when it keeps the rules.
-abbrev pub FineExactly : Type 0
-FineExactly = (ds rs ps : List ℕ) → (given (verdictOf ds rs ps) .0 ≡ granted) ↔ Rules ds rs ps

@@ -18,8 +18,9 @@ use Rattle.site.specs.declared.SubArea.{SubArea}
 use Rattle.site.specs.declared.Site.{Site}
 use Rattle.site.specs.declared.AreaAnswer.{AreaAnswer}
 use Rattle.site.specs.declared.AreaAnswer.the-variants.{Granted, Refused}
-use Rattle.site.specs.Parts.{partsOf, areaOf, mostParts, totalArea}
-use Rattle.site.specs.Judging.{fits, hasRoom, judgedFrom, judged, afterJudging, Fine}
+use Rattle.site.specs.Parts.{partsOf, areaOf, mostParts, totalArea, imperviousArea}
+use Rattle.site.specs.Judging.{fits, hasRoom, judgedFrom, judged, afterJudging, impervious}
+use Rattle.site.specs.Inner.{Fine}
 use Rattle.site.specs.Promises.{allFit}
 
 -- No refusal is a grant.
@@ -91,3 +92,13 @@ module _ {A : Type 0} (refused : Refusal → A) (onward : ℕ → A) (s : Site) 
 
   pub stops : {why : Refusal} → found ≡ Refused why → refused why ≡ afterJudging refused onward (judged s)
   stops f = simp (sym e ∙ f)
+
+-- The impervious area of a record that is judged fine, and the refusal of another.
+module _ (s : Site) {found : AreaAnswer} (e : found ≡ judged s) where
+  pub impervious-granted : {total : Area} (sum : Area) → found ≡ Granted total → sum .0 ≡ imperviousArea (partsOf s) → Granted sum ≡ impervious s
+  unfolding impervious
+  impervious-granted sum f g = simp (sym e ∙ f, ← g)
+
+  pub impervious-refused : {why : Refusal} → found ≡ Refused why → Refused why ≡ impervious s
+  unfolding impervious
+  impervious-refused f = simp (sym e ∙ f)

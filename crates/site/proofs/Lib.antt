@@ -4,4 +4,5 @@ pub mod Judging
 pub mod Walking
 pub mod Adding
 pub mod Sums
+pub mod Refusing
 pub mod Promises

@@ -7,7 +7,9 @@ use mathlib.Core.List.{List, [], _∷_, _++_}
 use native.Mathlib.Numerals.{add-one}
 use native.Mathlib.Omega.{arith}
 use lib.Dec.{leb}
-use lib.Seq.{take-suc-set}
+use lib.ListN.{getD}
+use lib.Seq.{take-suc-set, getD-set-other}
+use borrow.Author.Tests.{le-leb, lt-leb}
 use Rattle.laws.specs.Turn.{inTurn}
 use Rattle.laws.proofs.Sum.{sum-more}
 use Rattle.refusal.specs.declared.Refusal.{Refusal}
@@ -18,14 +20,17 @@ use Rattle.units.specs.declared.Area.{Area}
 use Rattle.units.specs.Limits.{mostArea}
 use Rattle.site.specs.declared.SubArea.{SubArea}
 use Rattle.site.specs.declared.Site.{Site}
+use Rattle.site.specs.declared.Added.{Added}
 use Rattle.site.specs.declared.AreaAnswer.{AreaAnswer}
 use Rattle.site.specs.declared.AreaAnswer.the-variants.{Granted, Refused}
-use Rattle.site.specs.Parts.{mostParts, partsOf, areaOf, emptySite}
+use Rattle.site.specs.Parts.{mostParts, partsOf, areaOf, blank, emptySite}
 use Rattle.site.specs.Judging.{fits, judgedFrom, judged, impervious, afterJudging, given}
 use Rattle.site.specs.Adding.{kept, stored, settled, addAnswer, addedTo, added}
-use Rattle.site.specs.Promises.{allFit, FineExactly, InMemory, Alike, PastCountUnread, RefusedKeeps, GrantedHolds, AddsAgree, EmptyFine}
+use Rattle.site.specs.Promises.{allFit, FineExactly, FullExactly, FirstRefused, InMemory, Alike, PastCountUnread, AddGrantedExactly, AddTries, AddRefused, RefusedKeeps, GrantedHolds, OnlyThePlaceAtTheCount, AddsAgree, EmptyFine}
 use Rattle.site.proofs.Judging.{never-granted, judged-has, has-judged}
-use Rattle.site.proofs.Adding.{grants, add-settles, add-answers, add-agrees}
+use Rattle.site.proofs.Walking.{overfull}
+use Rattle.site.proofs.Refusing.{full-above, refused-first}
+use Rattle.site.proofs.Adding.{grants, add-unfit, add-full, add-crowded, add-granted, add-settles, add-answers, add-agrees}
 
 -- the numbers given back tell the answer
 pub given-granted : (x : AreaAnswer) (a : ℕ) → given x ≡ (granted, a) → x ≡ Granted (record { 0 = a })
@@ -36,14 +41,71 @@ pub given-refused : (x : AreaAnswer) → (given x .0 ≡ granted → ⊥) → (w
 given-refused (Granted area) h = absurd (h refl)
 given-refused (Refused why) h = (why, refl)
 
+pub given-some : (x : AreaAnswer) → given x .0 ≡ granted → (a : Area) × (x ≡ Granted a)
+given-some (Granted area) h = (area, refl)
+given-some (Refused why) h = absurd (refusal-not-granted why h)
+
 pub fine-exactly : FineExactly
 fine-exactly s a = (
   λ e. judged-has s (record { 0 = a }) (given-granted (judged s) a e),
   λ h. ap given (has-judged s (record { 0 = a }) (h .0) (h .1) (h .2) (h .3)),
 )
 
+pub full-exactly : FullExactly
+full-exactly s = (full-above s, λ h. ap (λ (x : AreaAnswer). given x .0) (sym (overfull s h)))
+
+pub first-refused : FirstRefused
+first-refused = refused-first
+
 pub adds-agree : AddsAgree
-adds-agree s p total e = add-agrees s p (record { 0 = total }) (given-granted (judged s) total e)
+adds-agree s p total e =
+    let a = add-agrees s p (record { 0 = total }) (given-granted (judged s) total e) in
+    (a, sym (add-answers s total p) ∙ ap (λ (x : Added). x .answer) a)
+
+-- An answer worked out from the count and the total of a record that is judged fine is what the add gives back.
+gives-back : (s : Site) (p : SubArea) (total : ℕ) {x : AreaAnswer} → given (judged s) ≡ (granted, total)
+    → x ≡ addAnswer (s .count) total p → given (added s p .answer) ≡ given x
+gives-back s p total j e = ap given (sym (e ∙ adds-agree s p total j .1))
+
+pub add-granted-exactly : AddGrantedExactly
+add-granted-exactly s p total a j = (only, there)
+  where
+    only : given (added s p .answer) ≡ (granted, a) → (fits p ≡ true) × (s .count < mostParts) × (total + areaOf p ≡ a) × (a ≤ mostArea)
+    only h =
+        let g = grants (s .count) total p (record { 0 = a }) (adds-agree s p total j .1 ∙ given-granted (added s p .answer) a h) in
+        let n : total + areaOf p ≡ a = ap (λ (x : Area). x .0) (g .new-total) in
+        let w = g .within in
+        (g .fit, g .place, n, omega arith)
+
+    there : (fits p ≡ true) × (s .count < mostParts) × (total + areaOf p ≡ a) × (a ≤ mostArea) → given (added s p .answer) ≡ (granted, a)
+    there h =
+        let n = h .2 in
+        let l = h .3 in
+        let room = le-leb (total + areaOf p) mostArea (omega arith) in
+        gives-back s p total j (add-granted (s .count) total p (sym (h .0)) refl (h .1) (sym room) refl)
+        ∙ ap (λ (m : ℕ). (granted, m)) n
+
+refused-record : (s : Site) (p : SubArea) (why : Refusal) → judged s ≡ Refused why → added s p .answer ≡ Refused why
+unfolding added
+refused-record s p why e = simp e
+
+pub add-refused : AddRefused
+add-refused s p = (fine, own)
+  where
+    fine : (total : ℕ) → given (judged s) ≡ (granted, total) → AddTries s total p (given (added s p .answer))
+    fine total j =
+        record {
+          unfit = λ f. gives-back s p total j (add-unfit (s .count) total p (sym f) refl);
+          full = λ f h. gives-back s p total j (add-full (s .count) total p (sym f) refl (omega arith));
+          passed = λ f h l.
+              gives-back s p total j
+              (add-crowded (s .count) total p (sym f) refl h (sym (lt-leb (total + areaOf p) mostArea l)) refl);
+        }
+
+    own : (given (judged s) .0 ≡ granted → ⊥) → given (added s p .answer) ≡ (given (judged s) .0, 0)
+    own h =
+        let r = given-refused (judged s) h in
+        ap given (refused-record s p (r .0) (r .1)) ∙ ap (λ (x : AreaAnswer). (given x .0, 0)) (sym (r .1))
 
 pub empty-judged : judged emptySite ≡ Granted (record { 0 = 0 })
 unfolding judged judgedFrom
@@ -69,6 +131,29 @@ keeps s p why = told (judged s)
 
 pub refused-keeps : RefusedKeeps
 refused-keeps s p h = let r = given-refused (added s p .answer) h in keeps s p (r .0) (r .1)
+
+-- A granted answer comes with the sub-area stored.
+site-stored : (s : Site) (p : SubArea) (x : AreaAnswer) {a : Area} → settled s p x .answer ≡ Granted a → settled s p x .site ≡ stored s p
+site-stored s p (Granted b) h = refl
+site-stored s p (Refused why) h = absurd (never-granted h)
+
+stores : (s : Site) (p : SubArea) (a : Area) → added s p .answer ≡ Granted a → added s p .site ≡ stored s p
+unfolding added
+stores s p a = told (judged s)
+  where
+    told : (x : AreaAnswer)
+        → afterJudging (kept s) (λ total. addedTo s total p) x .answer ≡ Granted a
+        → afterJudging (kept s) (λ total. addedTo s total p) x .site ≡ stored s p
+    told (Granted total) = rw (add-settles s (total .0) p) (site-stored s p (addAnswer (s .count) (total .0) p))
+    told (Refused why) = λ h. absurd (never-granted h)
+
+pub only-the-place-at-the-count : OnlyThePlaceAtTheCount
+only-the-place-at-the-count s p h =
+    let g = given-some (added s p .answer) h in
+    let e = stores s p (g .0) (g .1) in (
+      ap (λ (t : Site). t .count) e,
+      λ k n. ap (λ (t : Site). getD (t .parts) k blank) e ∙ getD-set-other (s .parts) (s .count) k p blank n,
+    )
 
 -- One sub-area more that fits leaves all fitting.
 all-fit-more : (ps : List SubArea) (p : SubArea) → allFit ps ≡ true → fits p ≡ true → allFit (ps ++ (p ∷ [])) ≡ true

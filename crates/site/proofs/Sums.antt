@@ -3,15 +3,21 @@
 use Prim.Native.Nat.{ℕ, _+_, _≤_, _<_}
 use mathlib.Core.Path.{_≡_}
 use mathlib.Core.List.{List}
+use mir.Syntax.{w64}
+use mir.Val.{Fits}
+use native.Mathlib.Nat.{lt-of-le-of-lt}
 use native.Mathlib.Omega.{arith}
+use lib.Dec.{lit<}
 use lib.ListN.{drop, getD}
 use Rattle.laws.specs.Sum.{sumOf}
 use Rattle.laws.proofs.Sum.{sum-mono}
+use Rattle.units.specs.Limits.{mostArea}
 use Rattle.site.specs.declared.Cover.{Cover}
 use Rattle.site.specs.declared.Cover.the-variants.{Imp, Per}
 use Rattle.site.specs.declared.SubArea.{SubArea}
 use Rattle.site.specs.declared.Site.{Site}
 use Rattle.site.specs.Parts.{partsOf, blank, areaOf, under, imperviousOf, totalArea, imperviousArea}
+use Rattle.site.specs.Inner.{Fine}
 use Rattle.site.proofs.Parts.{Whole, part-at, none-left}
 
 under-le : (cover : Cover) (area : ℕ) → under cover area ≤ area
@@ -52,3 +58,12 @@ module _ (amount : SubArea → ℕ) (s : Site) where
   sum-ends i sum r h =
       let e : sum + 0 ≡ sumOf amount (partsOf s) = rw (none-left s i (r .whole) h) at (r .rest) in
       omega arith
+
+-- The impervious area of a record that is judged fine fits at every turn, being a part of the total area.
+pub impervious-fits : (s : Site) (i sum v : ℕ) → Fine s → Summed imperviousOf s i sum → i < s .count → v ≡ imperviousOf (getD (s .parts) i blank)
+    → Fits w64 (sum + v)
+impervious-fits s i sum v f r h e =
+    let w = sum-within imperviousOf s i sum v r h e in
+    let l = impervious-le (partsOf s) in
+    let m : sum + v ≤ mostArea = omega (arith, f .total) in
+    record { fits = lt-of-le-of-lt m (lit< tt) }

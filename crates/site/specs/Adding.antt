@@ -1,8 +1,7 @@
 -- 01, "Site and load" and "The numbers given back": adding a sub-area tries 2, 14, 3 and hands the site back.
 -- Assumes nothing.
 use Prim.Native.Nat.{ℕ, _+_}
-use mathlib.Core.Bool.{Bool}
-use mathlib.Core.List.{List, [], _∷_}
+use mathlib.Core.List.{[], _∷_}
 use lib.Dec.{ltb}
 use lib.ListN.{set}
 use Rattle.laws.specs.Turn.{inTurn}
@@ -16,17 +15,11 @@ use Rattle.site.specs.declared.AreaAnswer.the-variants.{Granted, Refused
 use Rattle.site.specs.Parts.{mostParts, areaOf}
 use Rattle.site.specs.Judging.{fits, hasRoom, judged, afterJudging, given}
 
--- what an add tries in turn, 2, 14, 3, of a site of so many sub-areas and the total area that is given
-abbrev pub addTests : ℕ → ℕ → SubArea → List (Bool × Refusal)
-addTests count total p =
-    (fits p, UnfitSubArea)
-    ∷ (ltb count mostParts, SiteFull)
-    ∷ (hasRoom total (areaOf p), TotalAreaPassed)
-    ∷ []
-
--- what an add answers: the new total area, or the refusal
+-- what an add to a site of so many sub-areas and the total area that is given answers: 2, 14 and 3 are tried, then it is the new total
 unfoldable pub addAnswer : ℕ → ℕ → SubArea → AreaAnswer
-addAnswer count total p = inTurn Refused (Granted (record { 0 = total + areaOf p })) (addTests count total p)
+addAnswer count total p =
+    inTurn Refused (Granted (record { 0 = total + areaOf p }))
+    ((fits p, UnfitSubArea) ∷ (ltb count mostParts, SiteFull) ∷ (hasRoom total (areaOf p), TotalAreaPassed) ∷ [])
 
 -- an add writes only the place at the count, and the count rises by one
 abbrev pub stored : Site → SubArea → Site

@@ -1,6 +1,6 @@
 -- 01, "Site and load" and "The numbers given back": a site record handed to any call is judged before all else.
 -- Assumes nothing.
-use Prim.Native.Nat.{ℕ, _+_, _≤_}
+use Prim.Native.Nat.{ℕ, _+_}
 use mathlib.Core.Bool.{Bool, _&&_}
 use mathlib.Core.List.{List, [], _∷_}
 use lib.Dec.{leb}
@@ -14,7 +14,7 @@ use Rattle.site.specs.declared.Site.{Site}
 use Rattle.site.specs.declared.AreaAnswer.{AreaAnswer}
 use Rattle.site.specs.declared.AreaAnswer.the-variants.{Granted, Refused}
 use Rattle.site.specs.Soils.{suits}
-use Rattle.site.specs.Parts.{mostParts, partsOf, areaOf, totalArea, imperviousArea}
+use Rattle.site.specs.Parts.{mostParts, partsOf, areaOf, imperviousArea}
 
 -- a sub-area that is not refused 2: its area is from 1 to 1,000,000, and its soil suits its cover
 abbrev pub fits : SubArea → Bool
@@ -34,11 +34,6 @@ judgedFrom total (p ∷ ps) =
 -- a count above 32 answers 14, then its sub-areas are tried
 unfoldable pub judged : Site → AreaAnswer
 judged s = inTurn Refused (judgedFrom 0 (partsOf s)) ((leb (s .count) mostParts, SiteFull) ∷ [])
-
--- What is known of a record that is judged fine.
-pub record Fine (s : Site) : Type 0 where
-  pub count : s .count ≤ mostParts
-  pub total : totalArea (partsOf s) ≤ mostArea
 
 -- The record's refusal is the call's; a record that is judged fine goes on, with its total area.
 module _ {A : Type 0} where

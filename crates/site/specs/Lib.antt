@@ -3,3 +3,4 @@ pub mod Parts
 pub mod Judging
 pub mod Adding
 pub mod Promises
+pub mod Inner

@@ -2,8 +2,9 @@
 ghost use mathlib.Core.Path.{_≡_};
 ghost use Rattle.site.specs.Soils.{named, suits, columnOf, loadColumn, runoffColumn};
 ghost use Rattle.site.specs.Parts.{partsOf, imperviousOf, imperviousArea, emptySite};
-ghost use Rattle.site.specs.Judging.{fits, hasRoom, judged, Fine, impervious};
+ghost use Rattle.site.specs.Judging.{fits, hasRoom, judged, impervious};
 ghost use Rattle.site.specs.Adding.{addAnswer, addedTo, added};
+ghost use Rattle.site.specs.Inner.{Fine};
 use refusal::Refusal;
 use units::Area;
 use units::Column;
@@ -137,13 +138,13 @@ fn part_fits(part: SubArea) -> bool
 }
 
 // An area added to a total is not refused 3.
-fn has_room(total: u64, area: u64) -> bool
-    ensures { λ r. ⌜ r ≡ hasRoom total area ⌝ }
+fn has_room(total: Area, area: Area) -> bool
+    ensures { λ r. ⌜ r ≡ hasRoom (total .0) (area .0) ⌝ }
 {
-    if units::MOST_AREA < area {
+    if units::MOST_AREA < area.0 {
         return false;
     }
-    total <= units::MOST_AREA - area
+    total.0 <= units::MOST_AREA - area.0
 }
 
 // A site without sub-areas.
@@ -189,28 +190,29 @@ pub fn judge(site: Site) -> AreaAnswer
 }
 
 // A sub-area's part in the impervious area.
-fn impervious_part(part: SubArea) -> u64
-    ensures { λ r. ⌜ r ≡ imperviousOf part ⌝ }
+fn impervious_part(part: SubArea) -> Area
+    ensures { λ r. ⌜ r .0 ≡ imperviousOf part ⌝ }
 {
     let area = part.area;
     let cover = part.cover;
     match cover {
-        Cover::Imp => area.0,
-        Cover::Per => 0,
+        Cover::Imp => area,
+        Cover::Per => Area(0),
     }
 }
 
 // The sum over the sub-areas of a record that is judged fine.
-fn impervious_sum(site: Site) -> u64
+fn impervious_sum(site: Site) -> Area
     requires { ⌜ Fine site ⌝ }
-    ensures { λ r. ⌜ r ≡ imperviousArea (partsOf site) ⌝ }
+    ensures { λ r. ⌜ r .0 ≡ imperviousArea (partsOf site) ⌝ }
 {
     let count = site.count;
-    let mut sum: u64 = 0;
+    let mut sum = Area(0);
     let mut place = 0;
     while place < count {
         let part = site.parts[place];
-        sum += impervious_part(part);
+        let more = impervious_part(part);
+        sum = Area(sum.0 + more.0);
         place += 1;
     }
     sum
@@ -222,7 +224,7 @@ pub fn impervious_area(site: Site) -> AreaAnswer
 {
     let found = judge(site);
     match found {
-        AreaAnswer::Granted(_) => AreaAnswer::Granted(Area(impervious_sum(site))),
+        AreaAnswer::Granted(_) => AreaAnswer::Granted(impervious_sum(site)),
         AreaAnswer::Refused(why) => AreaAnswer::Refused(why),
     }
 }
@@ -239,7 +241,7 @@ pub fn add_answer(count: usize, total: Area, part: SubArea) -> AreaAnswer
         return AreaAnswer::Refused(Refusal::SiteFull);
     }
     let area = part.area;
-    if !has_room(total.0, area.0) {
+    if !has_room(total, area) {
         return AreaAnswer::Refused(Refusal::TotalAreaPassed);
     }
     AreaAnswer::Granted(Area(total.0 + area.0))

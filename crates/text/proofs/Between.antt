@@ -12,9 +12,9 @@ use lib.ListN.{length, getD, take, drop, length-take, length-drop, drop-of-lengt
 use lib.Seq.{take-nil, drop-drop, drop-nil, getD-drop}
 use borrow.Author.Tests.{ltb-false}
 use Rattle.text.specs.Part.{partOf}
-use Rattle.text.specs.Pieces.{indexOf, hasOf, beforeOf, afterOf, pieces, startOf, endOf}
+use Rattle.text.specs.Pieces.{indexOf, beforeOf, afterOf, pieces, startOf, endOf}
 use Rattle.text.proofs.Parts.{part-tail, part-head, drop-within}
-use Rattle.text.proofs.Splitting.{index-within, pieces-step, start-within}
+use Rattle.text.proofs.Splitting.{hasOf, index-within, pieces-step, start-within}
 
 -- ps are the pieces of the text t that is left; past the last piece nothing is left of either
 abbrev Rest : ℕ → List ℕ → List (List ℕ) → Type 0

@@ -2,7 +2,7 @@
 -- Assumes nothing.
 use Prim.Native.Nat.{ℕ, zero, suc, _+_, _-_, _*_, _/_, _%_, _^_, _≤_, _<_}
 use mathlib.Core.Path.{_≡_, refl, sym, _∙_, ap}
-use mathlib.Core.Bool.{Bool, true, false, cond, _&&_}
+use mathlib.Core.Bool.{Bool, true, false, cond}
 use mathlib.Core.List.{List, [], _∷_, _++_, append-assoc, append-nil}
 use mathlib.Core.Logic.{⊎-elim}
 use native.Mathlib.Nat.{zero-add, pow-suc, div-lt-iff-lt-mul, div-add-mod', mod-lt, le-div-iff-mul-le}
@@ -12,8 +12,8 @@ use lib.ListN.{length, getD, length-append, List·getD-append}
 use borrow.Author.Tests.{le-leb, lt-ltb, le-ltb, ltb-true, ne-eqb}
 use Rattle.laws.proofs.And.{and-false}
 use Rattle.laws.proofs.Order.{lt-or-le}
-use Rattle.text.specs.declared.Numeral.the-variants.{Is}
 use Rattle.text.specs.Numbers.{mostDigits, digitZero, digitNine, digitsFrom, leadingZero, numeralOf, decimalFrom, decimalOf}
+use Rattle.text.specs.Promises.{WrittenReadsBack}
 
 -- one digit read behind a number
 digit-read : (n : ℕ) (t : List ℕ) (v : ℕ) → n < 10 → digitsFrom ((digitZero + n) ∷ t) v ≡ digitsFrom t (v * 10 + n)
@@ -93,13 +93,12 @@ no-leading-zero n = ⊎-elim (one n) several (lt-or-le n 10)
     several : 10 ≤ n → leadingZero (decimalFrom n n) ≡ false
     several h = rw (ne-eqb (getD (decimalFrom n n) 0 0) digitZero (digits-lead n n (below-power n) h)) (and-false (ltb 1 (length (decimalFrom n n))))
 
--- Reading the digits of a number of at most fourteen of them gives it back.
-pub number-of-decimal : (n : ℕ) → n < 10 ^ mostDigits → numeralOf (decimalOf n) ≡ Is n
+pub written-reads-back : WrittenReadsBack
 unfolding numeralOf decimalOf digitsFrom
-number-of-decimal n h =
+written-reads-back n h =
     rw (
-      le-ltb (length (decimalFrom n n)) 1 (digits-some n n),
-      le-ltb mostDigits (length (decimalFrom n n)) (digits-few n 13 n h),
+      le-leb 1 (length (decimalFrom n n)) (digits-some n n),
+      le-leb (length (decimalFrom n n)) mostDigits (digits-few n 13 n h),
       no-leading-zero n,
     )
     (ap (λ (l : List ℕ). digitsFrom l 0) (sym (append-nil (decimalFrom n n))) ∙ digits-read n n [] (below-power n))

@@ -13,10 +13,10 @@ use borrow.Author.Tests.{eq-eqb, ne-eqb, eqb-true, lt-ltb, le-ltb, ltb-true, ltb
 use Rattle.laws.proofs.And.{and-false, and-true}
 use Rattle.laws.proofs.Order.{never-both}
 use Rattle.text.specs.Part.{partOf}
-use Rattle.text.specs.Pieces.{indexOf, hasOf, beforeOf, afterOf}
+use Rattle.text.specs.Pieces.{indexOf, beforeOf, afterOf}
 use Rattle.text.specs.Words.{sameOf, opensOf, behindOf}
 use Rattle.text.proofs.Parts.{part-tail, part-head, drop-within}
-use Rattle.text.proofs.Splitting.{index-within}
+use Rattle.text.proofs.Splitting.{hasOf, index-within}
 use Rattle.text.proofs.Alike.{longer-differs, same-so-equal}
 
 -- a text that is shorter than the key does not open with it

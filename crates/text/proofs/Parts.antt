@@ -8,8 +8,10 @@ use native.Mathlib.Nat.{min-eq-left, min-eq-right, sub-zero}
 use native.Mathlib.Omega.{arith}
 use lib.ListN.{length, take, drop, length-drop, drop-of-length-le}
 use lib.Seq.{take-all, take-nil, drop-length}
+use denote.Ref.{RefT, ptr, now}
 use Rattle.laws.proofs.Order.{lt-or-le}
-use Rattle.text.specs.Part.{partOf}
+use Rattle.laws.proofs.Equation.{only-one}
+use Rattle.text.specs.Part.{partOf, Part}
 
 -- all of s from a place on
 pub part-tail : (s : List ℕ) (i : ℕ) → partOf s i (length s) ≡ drop i s
@@ -56,3 +58,11 @@ part-within s from to = ⊎-elim inside past (lt-or-le from (length s))
 pub part-drawn : (s : List ℕ) (from to : ℕ) {start most stop : ℕ} → start ≡ min from (length s) → most ≡ min to (length s) → stop ≡ max start most → take (stop - start) (drop start s) ≡ partOf s from to
 unfolding partOf
 part-drawn s from to e f g = rw (g, e, f) (part-within s from to)
+
+-- A part that is cut by its two places is settled: any two have the same bytes, and lie at the same place of the same memory.
+pub only-one-part : (s : RefT (List ℕ)) (from to : ℕ) {one other : RefT (List ℕ)} → Part s from to one → Part s from to other
+    → (now one ≡ now other) × (ptr one ≡ ptr other)
+only-one-part s from to p q = (
+  only-one (p .bytes) (q .bytes),
+  (λ i. (only-one (p .block) (q .block) i, only-one (p .start) (q .start) i)),
+)

@@ -10,7 +10,7 @@ use native.Mathlib.Omega.{arith}
 use lib.Dec.{lit<}
 use lib.ListN.{length, getD, drop, drop-of-length-le}
 use lib.Seq.{drop-cons}
-use borrow.Author.Tests.{le-leb, lt-leb, lt-ltb, le-ltb}
+use borrow.Author.Tests.{le-leb, lt-leb}
 use Rattle.text.specs.declared.Numeral.{Numeral}
 use Rattle.text.specs.declared.Numeral.the-variants.{Is, Malformed}
 use Rattle.text.specs.Numbers.{mostDigits, digitZero, digitNine, digitsFrom, leadingZero, numeralOf}
@@ -57,16 +57,16 @@ module _ {s : List ℕ} where
 -- which of its tests decides a number
 pub number-empty : (s : List ℕ) → length s < 1 → Malformed ≡ numeralOf s
 unfolding numeralOf
-number-empty s h = rw (lt-ltb (length s) 1 h)
+number-empty s h = rw (lt-leb 1 (length s) h)
 
 pub number-long : (s : List ℕ) → 1 ≤ length s → mostDigits < length s → Malformed ≡ numeralOf s
 unfolding numeralOf
-number-long s h l = rw (le-ltb (length s) 1 h, lt-ltb mostDigits (length s) l)
+number-long s h l = rw (le-leb 1 (length s) h, lt-leb (length s) mostDigits l)
 
 pub number-led : (s : List ℕ) {led : Bool} → 1 ≤ length s → length s ≤ mostDigits → led ≡ leadingZero s → led ≡ true → Malformed ≡ numeralOf s
 unfolding numeralOf
-number-led s h l e t = rw (le-ltb (length s) 1 h, le-ltb mostDigits (length s) l, ← e, t)
+number-led s h l e t = rw (le-leb 1 (length s) h, le-leb (length s) mostDigits l, ← e, t)
 
 pub number-read : (s : List ℕ) {led : Bool} {n : Numeral} → 1 ≤ length s → length s ≤ mostDigits → led ≡ leadingZero s → led ≡ false → n ≡ digitsFrom s 0 → n ≡ numeralOf s
 unfolding numeralOf
-number-read s h l e t d = rw (le-ltb (length s) 1 h, le-ltb mostDigits (length s) l, ← e, t) d
+number-read s h l e t d = rw (le-leb 1 (length s) h, le-leb (length s) mostDigits l, ← e, t) d

@@ -1,10 +1,10 @@
 -- The search in a list of words that stand in rows.
 -- Assumes nothing.
-use Prim.Native.Nat.{ℕ, zero, suc, _+_, _-_, _*_, _/_, _≤_, _<_}
-use mathlib.Core.Path.{_≡_, refl, sym, _∙_}
+use Prim.Native.Nat.{ℕ, suc, _+_, _-_, _*_, _/_, _≤_, _<_}
+use mathlib.Core.Path.{_≡_, sym, _∙_}
 use mathlib.Core.Bool.{Bool, true, false, cond}
 use mathlib.Core.List.{List, [], _∷_, _++_}
-use native.Mathlib.Nat.{sub-zero, zero-mul, suc-mul, mul-one, mul-le-mul-left, mul-le-mul-right, div-mul-le-self}
+use native.Mathlib.Nat.{sub-zero, zero-mul, suc-mul, mul-one, mul-le-mul-left, mul-le-mul-right, div-zero, div-mul-le-self}
 use native.Mathlib.Numerals.{add-one}
 use native.Mathlib.Omega.{arith}
 use lib.ListN.{length, take, drop, length-take, length-drop, length-append}
@@ -19,13 +19,8 @@ use Rattle.text.proofs.Front.{stands-within}
 
 -- a list without a width has no rows
 pub no-rows : (words : List ℕ) (n b : ℕ) (s : List ℕ) (at : ℕ) {r : WordStep} → n < 1 → r ≡ unread s → r ≡ wordFrom (rowsOf n words) b s at 0
-unfolding rowsOf wordFrom
-no-rows words n b s at h e = let z : n ≡ 0 = omega arith in rw z e
-
-some-rows : (words : List ℕ) (n : ℕ) → 1 ≤ n → rowsOf n words ≡ rowsFrom (length words / n) n words
-unfolding rowsOf
-some-rows words zero h = absurd (omega arith)
-some-rows words (suc n) h = refl
+unfolding rowsOf rowsFrom wordFrom
+no-rows words n b s at h e = let z : n ≡ 0 = omega arith in rw (z, div-zero (length words)) e
 
 -- the search has passed k rows, of which none holds the word
 pub record Sought (words : List ℕ) (n : ℕ) (s : List ℕ) (at b count row k : ℕ) : Type 0 where
@@ -35,13 +30,14 @@ pub record Sought (words : List ℕ) (n : ℕ) (s : List ℕ) (at b count row k 
   pub decides : wordFrom (rowsFrom (count - k) n (drop row words)) b s at k ≡ wordFrom (rowsOf n words) b s at 0
 
 module _ (words : List ℕ) (n : ℕ) (s : List ℕ) (at b count : ℕ) where
-  pub sought-none : 1 ≤ n → count ≡ length words / n → Sought words n s at b count 0 0
-  sought-none h e =
+  pub sought-none : count ≡ length words / n → Sought words n s at b count 0 0
+  unfolding rowsOf
+  sought-none e =
       record {
         start = sym (zero-mul n);
         within = omega arith;
         room = rw e (div-mul-le-self (length words) n);
-        decides = rw (e, sub-zero (length words / n), some-rows words n h);
+        decides = rw (e, sub-zero (length words / n));
       }
 
   module _ (row k : ℕ) (w : Sought words n s at b count row k) where

@@ -12,8 +12,12 @@ use lib.ListN.{length, getD, take, drop, length-drop, drop-of-length-le}
 use lib.Seq.{take-all, drop-cons}
 use borrow.Author.Tests.{eq-eqb, ne-eqb, lt-ltb, ltb-true, ltb-false}
 use Rattle.text.specs.Part.{partOf}
-use Rattle.text.specs.Pieces.{indexOf, hasOf, beforeOf, afterOf, joined, pieces, nextOf, startOf}
+use Rattle.text.specs.Pieces.{indexOf, beforeOf, afterOf, joined, pieces, nextOf, startOf}
 use Rattle.text.proofs.Parts.{part-tail, part-head}
+
+-- s holds a b
+abbrev pub hasOf : ℕ → List ℕ → Bool
+hasOf b s = ltb (indexOf b s) (length s)
 
 pub index-within : (b : ℕ) (s : List ℕ) → indexOf b s ≤ length s
 unfolding indexOf

@@ -1,6 +1,6 @@
 -- A word of a list that is read where it stands: it is the word before the first of the byte that ends it.
 -- Assumes nothing.
-use Prim.Native.Nat.{ℕ, _+_, _≤_}
+use Prim.Native.Nat.{ℕ, _+_}
 use mathlib.Core.Path.{_≡_, refl, sym, _∙_, ap}
 use mathlib.Core.Bool.{Bool, true, false, cond, _&&_}
 use mathlib.Core.List.{List, [], _∷_, _++_}
@@ -10,10 +10,10 @@ use lib.ListN.{length, drop, length-append}
 use lib.Seq.{drop-drop}
 use Rattle.text.specs.declared.Found.{Found}
 use Rattle.text.specs.declared.Found.the-variants.{At, Nothing}
-use Rattle.text.specs.declared.WordStep.{WordStep}
-use Rattle.text.specs.Pieces.{indexOf, hasOf, beforeOf, afterOf}
-use Rattle.text.specs.Words.{sameOf, opensOf, placeFrom, wordFrom, Within}
+use Rattle.text.specs.Pieces.{indexOf, beforeOf, afterOf}
+use Rattle.text.specs.Words.{sameOf, opensOf, placeFrom, wordFrom}
 use Rattle.text.proofs.Parts.{part-tail}
+use Rattle.text.proofs.Splitting.{hasOf}
 use Rattle.text.proofs.Front.{allFree, all-free-parts, free-ended, opens-cut, opens-word, opens-ends}
 
 -- the place of the word that stands at the front of a text
@@ -73,16 +73,3 @@ step-after (w ∷ ws) b s at k {j} f h = pick (opensOf (w ++ (b ∷ [])) (drop a
 -- a word that is read stands before the first b
 pub word-place : (ws : List (List ℕ)) (b : ℕ) (s : List ℕ) (at : ℕ) → allFree b ws ≡ true → wordFrom ws b s at 0 .place ≡ cond (hasOf b (drop at s)) (placeFrom ws (beforeOf b (drop at s)) 0) Nothing
 word-place ws b s at f = step-place ws b s at 0 ∙ standing-place ws b (drop at s) 0 f
-
--- a place that is found is one of the words'
-within-from : (ws : List (List ℕ)) (b : ℕ) (s : List ℕ) (at k n : ℕ) → k + length ws ≤ n → Within n (wordFrom ws b s at k .place)
-unfolding wordFrom
-within-from [] b s at k n h = tt
-within-from (w ∷ ws) b s at k n h = pick (opensOf (w ++ (b ∷ [])) (drop at s)) (within-from ws b s at (k + 1) n (omega arith))
-  where
-    pick : (o : Bool) → Within n (wordFrom ws b s at (k + 1) .place) → Within n (cond o (record { place = At k; next = at + length (w ++ (b ∷ [])) }) (wordFrom ws b s at (k + 1)) .place)
-    pick true later = omega arith
-    pick false later = later
-
-pub word-within : (ws : List (List ℕ)) (b : ℕ) (s : List ℕ) (at n : ℕ) {r : WordStep} → r ≡ wordFrom ws b s at 0 → length ws ≡ n → Within n (r .place)
-word-within ws b s at n e f = rw (e, ← f) (within-from ws b s at 0 (length ws) (omega arith))

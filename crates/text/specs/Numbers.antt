@@ -2,7 +2,7 @@
 -- Assumes nothing.
 use Prim.Native.Nat.{ℕ, zero, suc, _+_, _-_, _*_, _/_, _%_}
 use Prim.Native.Char.{code}
-use mathlib.Core.Bool.{Bool, cond, _&&_}
+use mathlib.Core.Bool.{Bool, cond, _&&_, not}
 use mathlib.Core.List.{List, [], _∷_, _++_}
 use lib.ListN.{length, getD}
 use lib.Dec.{leb, ltb, eqb}
@@ -29,11 +29,7 @@ leadingZero s = ltb 1 (length s) && eqb (getD s 0 0) digitZero
 
 -- the number that a text says
 unfoldable pub numeralOf : List ℕ → Numeral
-numeralOf s =
-    cond (ltb (length s) 1) Malformed
-    (cond (ltb mostDigits (length s)) Malformed
-    (cond (leadingZero s) Malformed
-    (digitsFrom s 0)))
+numeralOf s = cond (leb 1 (length s) && leb (length s) mostDigits && not (leadingZero s)) (digitsFrom s 0) Malformed
 
 -- the digits of n where it has at most k + 1 of them
 unfoldable pub decimalFrom : ℕ → ℕ → List ℕ

@@ -2,10 +2,10 @@
 -- Assumes nothing.
 use Prim.Native.Nat.{ℕ, zero, suc, _+_, min}
 use Prim.Native.Char.{code}
-use mathlib.Core.Bool.{Bool, cond}
+use mathlib.Core.Bool.{cond}
 use mathlib.Core.List.{List, [], _∷_}
 use lib.ListN.{length}
-use lib.Dec.{eqb, ltb}
+use lib.Dec.{eqb}
 use Rattle.text.specs.Part.{partOf}
 
 abbrev pub lineFeed : ℕ
@@ -21,10 +21,6 @@ space = code " "
 unfoldable pub indexOf : ℕ → List ℕ → ℕ
 indexOf b [] = 0
 indexOf b (x ∷ s) = cond (eqb x b) 0 (suc (indexOf b s))
-
--- s holds a b
-abbrev pub hasOf : ℕ → List ℕ → Bool
-hasOf b s = ltb (indexOf b s) (length s)
 
 -- what stands before the first b: all of s where there is none
 abbrev pub beforeOf : ℕ → List ℕ → List ℕ

@@ -1,6 +1,6 @@
 -- Texts compared, and a word's place in a list of words.
 -- Assumes nothing.
-use Prim.Native.Nat.{ℕ, zero, suc, _+_, _/_, _<_}
+use Prim.Native.Nat.{ℕ, zero, suc, _+_, _/_}
 use mathlib.Core.Bool.{Bool, true, false, cond, _&&_}
 use mathlib.Core.List.{List, [], _∷_, _++_}
 use lib.ListN.{length, take, drop}
@@ -40,10 +40,9 @@ unfoldable pub rowsFrom : ℕ → ℕ → List ℕ → List (List ℕ)
 rowsFrom zero n words = []
 rowsFrom (suc count) n words = beforeOf space (take n words) ∷ rowsFrom count n (drop n words)
 
--- the words of a list in rows of n bytes: as many as there are whole rows
+-- the words of a list in rows of n bytes, as many as there are whole rows: none where n is 0
 unfoldable pub rowsOf : ℕ → List ℕ → List (List ℕ)
-rowsOf zero words = []
-rowsOf (suc n) words = rowsFrom (length words / suc n) (suc n) words
+rowsOf n words = rowsFrom (length words / n) n words
 
 -- no word: what would stand behind it is the end of the text
 abbrev pub unread : List ℕ → WordStep
@@ -56,8 +55,3 @@ wordFrom (w ∷ ws) b s at k =
     cond (opensOf (w ++ (b ∷ [])) (drop at s))
     (record { place = At k; next = at + length (w ++ (b ∷ [])) })
     (wordFrom ws b s at (k + 1))
-
--- a place that is found is one of n
-abbrev pub Within : ℕ → Found → Type 0
-Within n (At k) = k < n
-Within n Nothing = Unit {0}

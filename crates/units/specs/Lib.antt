@@ -1,3 +1,4 @@
 pub mod Limits
 pub mod Depths
 pub mod Columns
+pub mod Promises

@@ -25,7 +25,7 @@ use units::Percent;
 use units::Rate;
 use units::Volume;
 use volume::VolumeAnswer;
-ghost use Rattle.published.specs.Published.{Standing};
+ghost use Rattle.published.specs.Inner.{Standing};
 
 // Puts a byte into a line, unless the line is full, and answers the place behind it.
 fn put_byte(byte: u8, line: &mut [u8], at: usize) -> usize {

@@ -1,6 +1,6 @@
 -- The answers of the calls, case by case: the tests that led there are the definition's.
 -- Assumes nothing.
-use Prim.Native.Nat.{ℕ, _-_, _≤_, _<_}
+use Prim.Native.Nat.{ℕ, _≤_, _<_}
 use mathlib.Core.Bool.{Bool, true, false, not}
 use mathlib.Core.List.{List}
 use mathlib.Core.Path.{_≡_, refl, sym, _∙_, ap}
@@ -8,8 +8,6 @@ use native.Mathlib.Nat.{le-trans}
 use lib.Dec.{leb}
 use lib.ListN.{length}
 use borrow.Author.Tests.{le-leb, lt-leb, leb-true, not-true, not-false}
-use Rattle.laws.specs.First.{first}
-use Rattle.laws.proofs.First.{first-same}
 use Rattle.refusal.specs.declared.Refusal.{Refusal}
 use Rattle.refusal.specs.declared.Refusal.the-variants.{TotalAreaPassed, AmountOutOfRange, PastLargest}
 use Rattle.units.specs.declared.Area.{Area}
@@ -17,20 +15,21 @@ use Rattle.units.specs.declared.Depth.{Depth}
 use Rattle.units.specs.declared.Volume.{Volume}
 use Rattle.units.specs.declared.DepthAnswer.{DepthAnswer}
 use Rattle.units.specs.declared.DepthAnswer.the-variants as depth
-use Rattle.units.specs.Limits.{mostArea, largest, highestDepth, gridDepths}
+use Rattle.units.specs.Limits.{mostArea, largest, highestDepth}
 use Rattle.site.specs.declared.Site.{Site}
-use Rattle.site.specs.declared.SubArea.{SubArea}
 use Rattle.site.specs.declared.AreaAnswer.{AreaAnswer}
 use Rattle.site.specs.declared.AreaAnswer.the-variants as area
 use Rattle.site.specs.Parts.{partsOf}
-use Rattle.site.specs.Judging.{judged, afterJudging, Fine}
+use Rattle.site.specs.Judging.{judged, afterJudging}
+use Rattle.site.specs.Inner.{Fine}
 use Rattle.site.proofs.Judging.{judged-fine}
 use Rattle.volume.specs.declared.Areas.{Areas}
 use Rattle.volume.specs.declared.Gathered.{Gathered}
 use Rattle.volume.specs.declared.VolumeAnswer.{VolumeAnswer}
 use Rattle.volume.specs.declared.VolumeAnswer.the-variants.{Granted, Refused}
-use Rattle.volume.specs.Volume.{volumeOf, depthOf}
-use Rattle.volume.specs.Areas.{noAreas, areasOf, totalOf, withinLimit, volumeFrom, notAbove, Six}
+use Rattle.volume.specs.Volume.{volumeOf, depthWithin, depthOf}
+use Rattle.volume.specs.Areas.{noAreas, areasOf, totalOf, withinLimit, volumeFrom}
+use Rattle.volume.specs.Inner.{Six}
 use Rattle.volume.specs.Answers.{notPast, volumeAnswer, depthAnswer, gatheredAnswer, volumeOn, depthOn}
 use Rattle.volume.proofs.Gathering.{gathered-six}
 use Rattle.volume.proofs.Products.{volume-gathered}
@@ -61,10 +60,10 @@ module _ (xs : List Area) (d : Depth) {b : Bool} (e : b ≡ withinLimit xs) wher
   unfolding volumeOn
   volume-past f h g k = simp (sym e ∙ not-false _ f, le-leb _ _ h, sym g ∙ not-true _ k)
 
-  pub volume-granted : {p : Bool} (r : ℕ) → not b ≡ false → d .0 ≤ highestDepth → p ≡ notPast (volumeFrom xs highestDepth) → not p ≡ false
-      → r ≡ volumeFrom xs (d .0) → Granted (record { 0 = r }) ≡ volumeOn xs d
+  pub volume-granted : {p : Bool} (r : Volume) → not b ≡ false → d .0 ≤ highestDepth → p ≡ notPast (volumeFrom xs highestDepth) → not p ≡ false
+      → r .0 ≡ volumeFrom xs (d .0) → Granted r ≡ volumeOn xs d
   unfolding volumeOn
-  volume-granted r f h g k v = simp (sym e ∙ not-false _ f, le-leb _ _ h, sym g ∙ not-false _ k, v)
+  volume-granted r f h g k v = simp (sym e ∙ not-false _ f, le-leb _ _ h, sym g ∙ not-false _ k, ← v)
 
 module _ (xs : List Area) (v : Volume) {b : Bool} (e : b ≡ withinLimit xs) where
   pub depth-crowded : not b ≡ true → depth.Refused TotalAreaPassed ≡ depthOn xs v
@@ -79,10 +78,10 @@ module _ (xs : List Area) (v : Volume) {b : Bool} (e : b ≡ withinLimit xs) whe
   unfolding depthOn
   depth-past f h g k = simp (sym e ∙ not-false _ f, le-leb _ _ h, sym g ∙ not-true _ k)
 
-  pub depth-granted : {p : Bool} (r : ℕ) → not b ≡ false → v .0 ≤ largest → p ≡ notPast (volumeFrom xs highestDepth) → not p ≡ false
-      → r ≡ first (notAbove xs (v .0)) gridDepths → depth.Granted (record { 0 = r - 1 }) ≡ depthOn xs v
+  pub depth-granted : {p : Bool} (r : Depth) → not b ≡ false → v .0 ≤ largest → p ≡ notPast (volumeFrom xs highestDepth) → not p ≡ false
+      → r .0 ≡ depthWithin (volumeFrom xs) (v .0) → depth.Granted r ≡ depthOn xs v
   unfolding depthOn
-  depth-granted r f h g k w = simp (sym e ∙ not-false _ f, le-leb _ _ h, sym g ∙ not-false _ k, w)
+  depth-granted r f h g k w = simp (sym e ∙ not-false _ f, le-leb _ _ h, sym g ∙ not-false _ k, ← w)
 
 -- The six areas beside the answer of the judging.
 module _ (s : Site) {found : AreaAnswer} (e : found ≡ judged s) where
@@ -99,25 +98,18 @@ module _ (s : Site) {found : AreaAnswer} (e : found ≡ judged s) where
   unfolding gatheredAnswer
   gather-refused f = simp (sym e ∙ f)
 
--- the depth of a volume from the six areas of a list of sub-areas
-depth-from : (ps : List SubArea) (v : ℕ) → first (notAbove (areasOf ps) v) gridDepths - 1 ≡ depthOf ps v
-unfolding depthOf
-depth-from ps v =
-    ap (λ (n : ℕ). n - 1)
-    (first-same (notAbove (areasOf ps) v) (λ d. leb (volumeOf ps d) v) gridDepths (λ k l. ap (λ (n : ℕ). leb n v) (volume-gathered ps k)))
-
 -- On the six areas of a site the calls answer as the site's own definitions say.
 module _ (s : Site) (total : Area) (e : judged s ≡ area.Granted total) where
   fine : withinLimit (areasOf (partsOf s)) ≡ true
   fine = le-leb _ _ (gathered-six (partsOf s) (judged-fine s total e .total) .small)
 
-  volume-same : (d : Depth) → volumeOn (areasOf (partsOf s)) d ≡ volumeAnswer s d
+  pub volume-same : (d : Depth) → volumeOn (areasOf (partsOf s)) d ≡ volumeAnswer s d
   unfolding volumeOn volumeAnswer
   volume-same d = simp (e, fine, volume-gathered)
 
-  depth-same : (v : Volume) → depthOn (areasOf (partsOf s)) v ≡ depthAnswer s v
-  unfolding depthOn depthAnswer
-  depth-same v = simp (e, fine, volume-gathered, depth-from)
+  pub depth-same : (v : Volume) → depthOn (areasOf (partsOf s)) v ≡ depthAnswer s v
+  unfolding depthOn depthAnswer depthOf
+  depth-same v = simp (e, fine, volume-gathered)
 
 -- What is gathered tells how the record was judged.
 pub judged-told : (s : Site) (g : Gathered) → g ≡ gatheredAnswer s → g .answer ≡ judged s

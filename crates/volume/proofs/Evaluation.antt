@@ -5,13 +5,14 @@ use mathlib.Core.List.{List, [], _∷_}
 use mathlib.Core.Path.{_≡_, sym, _∙_, ap}
 use mir.Syntax.{w64}
 use mir.Val.{Fits}
-use native.Mathlib.Nat.{le-refl, le-trans, lt-of-le-of-lt, mul-le-mul, mul-le-mul-left}
+use native.Mathlib.Nat.{le-trans, lt-of-le-of-lt, mul-le-mul-left, mul-assoc}
 use native.Mathlib.Omega.{arith}
 use lib.Dec.{lit<, lit≤}
 use borrow.Author.Tests.{le-leb}
 use Rattle.laws.specs.Sum.{sumOf}
 use Rattle.refusal.specs.declared.Refusal.{Refusal}
 use Rattle.units.specs.declared.Area.{Area}
+use Rattle.units.specs.declared.Depth.{Depth}
 use Rattle.units.specs.declared.Column.{Column}
 use Rattle.units.specs.declared.Column.the-variants.{A, B, C, CD, D}
 use Rattle.units.specs.Limits.{mostArea, highestDepth}
@@ -20,7 +21,8 @@ use Rattle.runoff.specs.declared.RunoffAnswer.the-variants.{Granted, Refused}
 use Rattle.runoff.specs.declared.RunoffDepth.{RunoffDepth}
 use Rattle.runoff.specs.Runoff.{entryOf, runoffOf, given}
 use Rattle.runoff.proofs.LineRule.{sheet-at, runoff-most}
-use Rattle.volume.specs.Areas.{areaAt, totalOf, soilsRunoff, volumeFrom, Six, OnSheet}
+use Rattle.volume.specs.Areas.{areaAt, totalOf, soilsRunoff, volumeFrom}
+use Rattle.volume.specs.Inner.{Six, OnSheet}
 use Rattle.volume.proofs.Gathering.{at-most}
 
 -- Each of the six areas is within the limit.
@@ -43,22 +45,29 @@ six-le (a ∷ b ∷ c ∷ d ∷ e ∷ f ∷ xs) = omega arith
 pub all-small : (xs : List Area) → Six xs → areaAt xs 0 + (areaAt xs 1 + (areaAt xs 2 + (areaAt xs 3 + (areaAt xs 4 + areaAt xs 5)))) ≤ mostArea
 all-small xs s = le-trans (six-le xs) (s .small)
 
--- The impervious product is at most 60,000 times the area, and fits.
-pub impervious-most : (a d : ℕ) → d ≤ highestDepth → 300 * d * a ≤ 60_000 * a
-impervious-most a d h =
-    let m : 300 * d * a ≤ 300 * 200 * a = mul-le-mul (mul-le-mul-left 300 h) (le-refl a) in
-    omega arith
+-- The volume of an impervious area is at most 121 × 60,000 times the area, and fits.
+module _ (a d : ℕ) where
+  pub impervious-is : 36_300 * a * d ≡ 121 * (300 * d * a)
+  impervious-is = omega arith
 
-pub impervious-fits : (a d : ℕ) → a ≤ mostArea → d ≤ highestDepth → Fits w64 (300 * d * a)
-impervious-fits a d l h =
-    let m = impervious-most a d h in
-    let n : 300 * d * a ≤ 60_000 * mostArea = omega arith in
-    record { fits = lt-of-le-of-lt n (lit< tt) }
+  pub impervious-most : d ≤ highestDepth → 36_300 * a * d ≤ 7_260_000 * a
+  impervious-most h =
+      let m : 36_300 * a * d ≤ 36_300 * a * 200 = mul-le-mul-left (36_300 * a) h in
+      omega arith
 
-module _ (sheet : List ℕ) (c : Column) (d : ℕ) (found : RunoffAnswer) (on : OnSheet sheet d) (e : found ≡ entryOf sheet c (record { 0 = d })) where
+  pub impervious-fits : a ≤ mostArea → d ≤ highestDepth → Fits w64 (36_300 * a * d)
+  impervious-fits l h =
+      let m = impervious-most h in
+      let n : 36_300 * a * d ≤ 7_260_000 * mostArea = omega arith in
+      record { fits = lt-of-le-of-lt n (lit< tt) }
+
+module _ (sheet : List ℕ) (c : Column) (depth : Depth) (found : RunoffAnswer) (on : OnSheet sheet (depth .0)) (e : found ≡ entryOf sheet c depth) where
+  abbrev d : ℕ
+  d = depth .0
+
   told : found ≡ Granted (record { 0 = runoffOf c d })
   told =
-      let g : entryOf sheet c (record { 0 = d }) ≡ Granted (record { 0 = runoffOf c d }) =
+      let g : entryOf sheet c depth ≡ Granted (record { 0 = runoffOf c d }) =
       simp (le-leb d highestDepth (on .grid), on .constant, sheet-at c d (on .grid)) in
       e ∙ g
 
@@ -72,37 +81,41 @@ module _ (sheet : List ℕ) (c : Column) (d : ℕ) (found : RunoffAnswer) (on : 
       let z : _≡_ {A = ℕ} 0 1 = cc in
       omega arith
 
-  -- Area × runoff, at most 60,000 times the area.
-  pub soil-product : (a : ℕ) (x : RunoffDepth) → found ≡ Granted x → a * x .0 ≡ a * runoffOf c d
-  soil-product a x f = ap (λ (n : ℕ). a * n) (found-is x f)
+  -- The volume of a pervious area, at most 121 × 60,000 times the area.
+  module _ (a : ℕ) (x : RunoffDepth) (f : found ≡ Granted x) where
+    pub soil-is : 121 * a * x .0 ≡ 121 * (a * runoffOf c d)
+    soil-is = mul-assoc 121 a (x .0) ∙ ap (λ (n : ℕ). 121 * (a * n)) (found-is x f)
 
-  pub soil-most : (a : ℕ) (x : RunoffDepth) → found ≡ Granted x → a * x .0 ≤ 60_000 * a
-  soil-most a x f =
-      let m = runoff-most c d (on .grid) in
-      let q = found-is x f in
-      let l : x .0 ≤ 60_000 = omega arith in
-      let p = mul-le-mul-left a l in
-      omega arith
+    pub soil-most : 121 * a * x .0 ≤ 7_260_000 * a
+    soil-most =
+        let m = runoff-most c d (on .grid) in
+        let q = found-is x f in
+        let l : x .0 ≤ 60_000 = omega arith in
+        let p : 121 * a * x .0 ≤ 121 * a * 60_000 = mul-le-mul-left (121 * a) l in
+        omega arith
 
-  pub soil-small : (a : ℕ) (x : RunoffDepth) → found ≡ Granted x → a ≤ mostArea → a * x .0 ≤ 60_000 * mostArea
-  soil-small a x f l =
-      let m = soil-most a x f in
-      omega arith
+    pub soil-small : a ≤ mostArea → 121 * a * x .0 ≤ 7_260_000 * mostArea
+    soil-small l = let m = soil-most in omega arith
 
-  pub soil-fits : (a : ℕ) (x : RunoffDepth) → found ≡ Granted x → a ≤ mostArea → Fits w64 (a * x .0)
-  soil-fits a x f l = record { fits = lt-of-le-of-lt (soil-small a x f l) (lit< tt) }
+    pub soil-fits : a ≤ mostArea → Fits w64 (121 * a * x .0)
+    soil-fits l = record { fits = lt-of-le-of-lt (soil-small l) (lit< tt) }
 
--- The sum over the soils, with what the impervious product can be, stays within 60,000 times the limit.
-pub soils-most : (xs : List Area) (a b c d e : ℕ) → Six xs → a ≤ 60_000 * areaAt xs 1 → b ≤ 60_000 * areaAt xs 2 → c ≤ 60_000 * areaAt xs 3
-    → d ≤ 60_000 * areaAt xs 4 → e ≤ 60_000 * areaAt xs 5 → a + b + c + d + e + 60_000 * areaAt xs 0 ≤ 60_000 * mostArea
+-- The sum over the soils, with what the impervious area can bring, stays within V(200) of the largest site.
+pub soils-most : (xs : List Area) (a b c d e : ℕ) → Six xs → a ≤ 7_260_000 * areaAt xs 1 → b ≤ 7_260_000 * areaAt xs 2 → c ≤ 7_260_000 * areaAt xs 3
+    → d ≤ 7_260_000 * areaAt xs 4 → e ≤ 7_260_000 * areaAt xs 5 → a + b + c + d + e + 7_260_000 * areaAt xs 0 ≤ 7_260_000 * mostArea
 soils-most xs a b c d e s h i j k l =
     let m = all-small xs s in
     omega arith
 
--- Six products, times 121.
-pub volume-is : (xs : List Area) (d i p : ℕ) → i ≡ 300 * d * areaAt xs 0 → p ≡ soilsRunoff xs d → 121 * (i + p) ≡ volumeFrom xs d
+-- The volumes of the five soil columns, and with that of the impervious area V.
+pub soils-are : (xs : List Area) (depth a b c d e : ℕ) → a ≡ 121 * (areaAt xs 1 * runoffOf A depth) → b ≡ 121 * (areaAt xs 2 * runoffOf B depth)
+    → c ≡ 121 * (areaAt xs 3 * runoffOf C depth) → d ≡ 121 * (areaAt xs 4 * runoffOf CD depth) → e ≡ 121 * (areaAt xs 5 * runoffOf D depth)
+    → a + b + c + d + e ≡ 121 * soilsRunoff xs depth
+soils-are xs depth a b c d e h i j k l = omega arith
+
+pub volume-is : (xs : List Area) (d i p : ℕ) → i ≡ 121 * (300 * d * areaAt xs 0) → p ≡ 121 * soilsRunoff xs d → i + p ≡ volumeFrom xs d
 unfolding volumeFrom
-volume-is xs d i p e f = rw (e, f)
+volume-is xs d i p e f = omega arith
 
 -- V(200) from six areas is at most that of the largest site, all of it impervious.
 pub from-most : (xs : List Area) → Six xs → volumeFrom xs highestDepth ≤ 7_260_000_000_000

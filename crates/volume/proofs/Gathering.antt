@@ -22,9 +22,10 @@ use Rattle.site.specs.declared.SubArea.{SubArea}
 use Rattle.site.specs.declared.Site.{Site}
 use Rattle.site.specs.Soils.{runoffColumn}
 use Rattle.site.specs.Parts.{partsOf, areaOf, blank, totalArea}
-use Rattle.site.specs.Judging.{Fine}
+use Rattle.site.specs.Inner.{Fine}
 use Rattle.site.proofs.Parts.{Whole, part-at, none-left}
-use Rattle.volume.specs.Areas.{noArea, areaPlaceUnder, areaPlace, areaAt, withPart, gatheredFrom, areasOf, totalOf, Six}
+use Rattle.volume.specs.Areas.{noArea, areaPlaceUnder, areaPlace, areaAt, withPart, gatheredFrom, areasOf, totalOf}
+use Rattle.volume.specs.Inner.{Six}
 
 under-most : (cover : Cover) (k : ℕ) → k ≤ 4 → areaPlaceUnder cover k ≤ 5
 under-most Imp k h = omega arith

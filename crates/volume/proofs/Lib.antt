@@ -5,4 +5,5 @@ pub mod Rising
 pub mod Reaching
 pub mod Limit
 pub mod Answered
+pub mod Granting
 pub mod Promises

@@ -1,16 +1,14 @@
--- The promises of V and of the depth of a volume, and 01's numbers by computation.
+-- The promises of V and of the depth of a volume, proved.
 -- Assumes nothing.
-use mathlib.Core.List.{List, [], _∷_}
-use mathlib.Core.Path.{_≡_, refl}
-use Rattle.laws.specs.Sum.{sumOf}
-use Rattle.runoff.specs.Runoff.{runoffOf, byRows, fromRow}
+use Rattle.site.specs.Judging.{judged}
 use Rattle.site.proofs.Promises as site
-use Rattle.volume.specs.Volume.{volumeOf}
-use Rattle.volume.specs.Examples.{lot, yard}
-use Rattle.volume.specs.Answers.{volumeAnswer, depthAnswer}
-use Rattle.volume.specs.Promises.{StartsAtZero, NeverFalls, RisesStrictly, Fits, LargestDepth, PastCountUnread}
+use Rattle.volume.specs.Answers.{volumeAnswer, depthAnswer, gatheredAnswer}
+use Rattle.volume.specs.Promises.{StartsAtZero, NeverFalls, RisesStrictly, Fits, LargestDepth, VolumeGrantedExactly, DepthGrantedExactly, VolumeRefused, DepthRefused, SixAreasSuffice, PastCountUnread}
 use Rattle.volume.proofs.Rising.{volume-zero, volume-rises, volume-strict, volume-fits}
 use Rattle.volume.proofs.Reaching.{depth-on-grid, depth-within, depth-largest}
+use Rattle.volume.proofs.Granting.{volume-only, volume-there, volume-own, volume-above, depth-only, depth-there, depth-own, depth-above}
+use Rattle.volume.proofs.Products.{volume-gathered}
+use Rattle.volume.proofs.Answered.{volume-same, depth-same}
 
 pub starts-at-zero : StartsAtZero
 starts-at-zero = volume-zero
@@ -27,14 +25,28 @@ fits = volume-fits
 pub largest-depth : LargestDepth
 largest-depth ps v = (depth-on-grid ps v, depth-within ps v, depth-largest ps v)
 
+pub volume-granted-exactly : VolumeGrantedExactly
+volume-granted-exactly s d v = (volume-only s d v, λ h. volume-there s d v (h .0) (h .1) (h .2))
+
+pub depth-granted-exactly : DepthGrantedExactly
+depth-granted-exactly s v d = (depth-only s v d, λ h. depth-there s v d (h .0) (h .1) (h .2))
+
+pub volume-refused : VolumeRefused
+volume-refused s d = (volume-own s d, volume-above s d)
+
+pub depth-refused : DepthRefused
+depth-refused s v = (depth-own s v, depth-above s v)
+
+pub six-areas-suffice : SixAreasSuffice
+six-areas-suffice = (
+  volume-gathered,
+  λ s d h. let g = site.given-some (judged s) h in volume-same s (g .0) (g .1) d,
+  λ s v h. let g = site.given-some (judged s) h in depth-same s (g .0) (g .1) v,
+)
+
 pub past-count-unread : PastCountUnread
-unfolding volumeAnswer depthAnswer
+unfolding volumeAnswer depthAnswer gatheredAnswer
 past-count-unread s t r =
     let e = site.past-count-unread s t r .0 in
     let p = r .parts in
-    (λ d. simp (e, p), λ v. simp (e, p))
-
--- "Impervious 257, depth 36: V = 335,847,600." "Impervious 400, pervious C 200 and B 150: V(71) = 1,100,343,750."
-pub paper-numbers : (volumeOf lot 36 ∷ volumeOf yard 71 ∷ []) ≡ (335_847_600 ∷ 1_100_343_750 ∷ [])
-unfolding volumeOf sumOf runoffOf byRows fromRow
-paper-numbers = refl
+    (λ d. simp (e, p), λ v. simp (e, p), simp (e, p))

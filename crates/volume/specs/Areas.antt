@@ -1,17 +1,16 @@
 -- The six areas that V is worked out from: the impervious area and the pervious area of each soil column.
 -- Assumes nothing.
-use Prim.Native.Nat.{ℕ, suc, _+_, _*_, _≤_}
+use Prim.Native.Nat.{ℕ, suc, _+_, _*_}
 use mathlib.Core.Bool.{Bool}
 use mathlib.Core.List.{List, [], _∷_}
-use mathlib.Core.Path.{_≡_}
 use lib.Dec.{leb}
-use lib.ListN.{length, getD, set, replicate}
+use lib.ListN.{getD, set, replicate}
 use Rattle.laws.specs.Sum.{sumOf}
 use Rattle.units.specs.declared.Area.{Area}
 use Rattle.units.specs.declared.Column.the-variants.{A, B, C, CD, D}
 use Rattle.units.specs.Columns.{columnPlace}
-use Rattle.units.specs.Limits.{mostArea, highestDepth}
-use Rattle.runoff.specs.Runoff.{runoffOf, runoffSheet}
+use Rattle.units.specs.Limits.{mostArea}
+use Rattle.runoff.specs.Runoff.{runoffOf}
 use Rattle.site.specs.declared.Cover.{Cover}
 use Rattle.site.specs.declared.Cover.the-variants.{Imp, Per}
 use Rattle.site.specs.declared.SubArea.{SubArea}
@@ -69,17 +68,3 @@ soilsRunoff xs d =
 -- V from the six areas: six products
 unfoldable pub volumeFrom : List Area → ℕ → ℕ
 volumeFrom xs d = 121 * (300 * d * areaAt xs 0 + soilsRunoff xs d)
-
--- V at a depth is not above the volume
-abbrev pub notAbove : List Area → ℕ → ℕ → Bool
-notAbove xs v d = leb (volumeFrom xs d) v
-
--- What is known of the six areas of a site.
-pub record Six (xs : List Area) : Type 0 where
-  pub six : length xs ≡ 6
-  pub small : totalOf xs ≤ mostArea
-
--- What V is worked out with: the runoff sheet, and a depth of its grid.
-pub record OnSheet (sheet : List ℕ) (d : ℕ) : Type 0 where
-  pub constant : sheet ≡ runoffSheet
-  pub grid : d ≤ highestDepth

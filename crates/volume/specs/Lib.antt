@@ -3,3 +3,4 @@ pub mod Areas
 pub mod Answers
 pub mod Promises
 pub mod Examples
+pub mod Inner

@@ -26,7 +26,10 @@ perviousRunoff d p = ifPervious (p .cover) (areaOf p * runoffOf (runoffColumn (p
 unfoldable pub volumeOf : List SubArea → ℕ → ℕ
 volumeOf ps d = 121 * (300 * d * imperviousArea ps + sumOf (perviousRunoff d) ps)
 
--- the depth of a volume is the largest grid depth d with V(d) not above the volume:
--- the one before the first whose V is above it
+-- the largest grid depth whose V is not above the volume, for any V: the one before the first whose V is above it
+abbrev pub depthWithin : (ℕ → ℕ) → ℕ → ℕ
+depthWithin volumeAt v = first (λ d. leb (volumeAt d) v) gridDepths - 1
+
+-- the depth of a volume is the largest grid depth d with V(d) not above the volume
 unfoldable pub depthOf : List SubArea → ℕ → ℕ
-depthOf ps v = first (λ d. leb (volumeOf ps d) v) gridDepths - 1
+depthOf ps v = depthWithin (volumeOf ps) v

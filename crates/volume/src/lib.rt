@@ -2,12 +2,13 @@
 ghost use mathlib.Core.Path.{_≡_};
 ghost use lib.ListN.{length};
 ghost use Prim.Native.Nat.{_+_, _*_, _≤_};
-ghost use Rattle.laws.specs.First.{first};
-ghost use Rattle.units.specs.Limits.{mostArea, highestDepth, gridDepths};
+ghost use Rattle.units.specs.Limits.{mostArea, highestDepth};
 ghost use Rattle.runoff.specs.Runoff.{runoffOf, runoffSheet};
 ghost use Rattle.site.specs.Parts.{partsOf};
-ghost use Rattle.site.specs.Judging.{Fine};
-ghost use Rattle.volume.specs.Areas.{areaPlace, areaAt, areasOf, withinLimit, soilsRunoff, volumeFrom, notAbove, Six, OnSheet};
+ghost use Rattle.site.specs.Inner.{Fine};
+ghost use Rattle.volume.specs.Volume.{depthWithin};
+ghost use Rattle.volume.specs.Areas.{areaPlace, areaAt, areasOf, withinLimit, soilsRunoff, volumeFrom};
+ghost use Rattle.volume.specs.Inner.{Six, OnSheet};
 ghost use Rattle.volume.specs.Answers.{notPast, gatheredAnswer, volumeAnswer, depthAnswer, volumeOn, depthOn};
 use refusal::Refusal;
 use runoff::RunoffAnswer;
@@ -62,76 +63,74 @@ fn six_areas(site: Site) -> Areas
     Areas { of }
 }
 
-// 300 × d × impervious area.
-fn from_impervious(area: Area, d: u64) -> u64
-    requires { ⌜ (area .0 ≤ mostArea) × (d ≤ highestDepth) ⌝ }
-    ensures { λ r. ⌜ (r ≡ 300 * d * area .0) × (r ≤ 60_000 * area .0) ⌝ }
+// An impervious area and a depth make a volume.
+fn from_impervious(area: Area, depth: Depth) -> Volume
+    requires { ⌜ (area .0 ≤ mostArea) × (depth .0 ≤ highestDepth) ⌝ }
+    ensures { λ r. ⌜ (r .0 ≡ 121 * (300 * depth .0 * area .0)) × (r .0 ≤ 7_260_000 * area .0) ⌝ }
 {
-    300 * d * area.0
+    Volume(121 * 300 * area.0 * depth.0)
 }
 
-// Area × runoff of one soil column.
-fn from_soil(sheet: &[u16; 1005], column: Column, area: Area, d: u64) -> u64
-    requires { ⌜ OnSheet (now sheet) d ⌝ }
+// The pervious area of a soil column and a depth make a volume.
+fn from_soil(sheet: &[u16; 1005], column: Column, area: Area, depth: Depth) -> Volume
+    requires { ⌜ OnSheet (now sheet) (depth .0) ⌝ }
     requires { ⌜ area .0 ≤ mostArea ⌝ }
-    ensures { λ r. ⌜ (r ≡ area .0 * runoffOf column d) × (r ≤ 60_000 * area .0) × (r ≤ 60_000 * mostArea) ⌝ }
+    ensures { λ r. ⌜ (r .0 ≡ 121 * (area .0 * runoffOf column (depth .0))) × (r .0 ≤ 7_260_000 * area .0) × (r .0 ≤ 7_260_000 * mostArea) ⌝ }
 {
-    let found = runoff::entry(sheet, column, Depth(d));
+    let found = runoff::entry(sheet, column, depth);
     match found {
-        RunoffAnswer::Granted(runoff) => area.0 * runoff.0,
-        RunoffAnswer::Refused(_) => 0,
+        RunoffAnswer::Granted(runoff) => Volume(121 * area.0 * runoff.0),
+        RunoffAnswer::Refused(_) => Volume(0),
     }
 }
 
 // The sum over the soil columns.
-fn from_soils(sheet: &[u16; 1005], areas: Areas, d: u64) -> u64
-    requires { ⌜ OnSheet (now sheet) d ⌝ }
+fn from_soils(sheet: &[u16; 1005], areas: Areas, depth: Depth) -> Volume
+    requires { ⌜ OnSheet (now sheet) (depth .0) ⌝ }
     requires { ⌜ Six (areas .of) ⌝ }
-    ensures { λ r. ⌜ (r ≡ soilsRunoff (areas .of) d) × (r + 60_000 * areaAt (areas .of) 0 ≤ 60_000 * mostArea) ⌝ }
+    ensures { λ r. ⌜ (r .0 ≡ 121 * soilsRunoff (areas .of) (depth .0)) × (r .0 + 7_260_000 * areaAt (areas .of) 0 ≤ 7_260_000 * mostArea) ⌝ }
 {
     let of = areas.of;
-    let a = from_soil(sheet, Column::A, of[1], d);
-    let b = from_soil(sheet, Column::B, of[2], d);
-    let c = from_soil(sheet, Column::C, of[3], d);
-    let cd = from_soil(sheet, Column::CD, of[4], d);
-    let last = from_soil(sheet, Column::D, of[5], d);
-    a + b + c + cd + last
+    let a = from_soil(sheet, Column::A, of[1], depth);
+    let b = from_soil(sheet, Column::B, of[2], depth);
+    let c = from_soil(sheet, Column::C, of[3], depth);
+    let cd = from_soil(sheet, Column::CD, of[4], depth);
+    let last = from_soil(sheet, Column::D, of[5], depth);
+    Volume(a.0 + b.0 + c.0 + cd.0 + last.0)
 }
 
 // V at a depth of the grid.
-fn volume_at(sheet: &[u16; 1005], areas: Areas, d: u64) -> u64
-    requires { ⌜ OnSheet (now sheet) d ⌝ }
+fn volume_at(sheet: &[u16; 1005], areas: Areas, depth: Depth) -> Volume
+    requires { ⌜ OnSheet (now sheet) (depth .0) ⌝ }
     requires { ⌜ Six (areas .of) ⌝ }
-    ensures { λ r. ⌜ r ≡ volumeFrom (areas .of) d ⌝ }
+    ensures { λ r. ⌜ r .0 ≡ volumeFrom (areas .of) (depth .0) ⌝ }
 {
     let of = areas.of;
-    let impervious = from_impervious(of[0], d);
-    let pervious = from_soils(sheet, areas, d);
-    121 * (impervious + pervious)
+    let impervious = from_impervious(of[0], depth);
+    let pervious = from_soils(sheet, areas, depth);
+    Volume(impervious.0 + pervious.0)
 }
 
-// The first grid depth whose V is above the volume, or 201, with at most 8 evaluations of V.
-fn first_above(sheet: &[u16; 1005], areas: Areas, volume: u64) -> u64
+// The largest grid depth whose V is not above the volume, with 8 evaluations of V: it is among the `width` depths from
+// `low` on, and half of them are left at each turn.
+fn depth_within(sheet: &[u16; 1005], areas: Areas, volume: Volume) -> Depth
     requires { ⌜ now sheet ≡ runoffSheet ⌝ }
     requires { ⌜ Six (areas .of) ⌝ }
-    ensures { λ r. ⌜ r ≡ first (notAbove (areas .of) volume) gridDepths ⌝ }
+    ensures { λ r. ⌜ r .0 ≡ depthWithin (volumeFrom (areas .of)) (volume .0) ⌝ }
 {
     let mut low = Depth::LOWEST;
-    let mut high = Depth::HIGHEST + 1;
-    let mut trials: u64 = 8;
-    while 0 < trials {
-        if high <= low {
-            return low;
-        }
-        let middle = low + (high - low) / 2;
-        trials -= 1;
-        if volume_at(sheet, areas, middle) <= volume {
-            low = middle + 1;
+    let mut width = Depth::HIGHEST + 1;
+    while 1 < width {
+        let half = width / 2;
+        let found = volume_at(sheet, areas, Depth(low + half));
+        if found.0 <= volume.0 {
+            low += half;
+            width -= half;
         } else {
-            high = middle;
+            width -= half;
         }
     }
-    low
+    Depth(low)
 }
 
 // The six areas are those of a site: their total is within the limit.
@@ -164,7 +163,8 @@ fn within_largest(sheet: &[u16; 1005], areas: Areas) -> bool
     if FULLEST <= units::LARGEST {
         return true;
     }
-    volume_at(sheet, areas, Depth::HIGHEST) <= units::LARGEST
+    let found = volume_at(sheet, areas, Depth(Depth::HIGHEST));
+    found.0 <= units::LARGEST
 }
 
 // V at a depth, from six areas.
@@ -174,15 +174,14 @@ pub fn volume_of(areas: Areas, depth: Depth) -> VolumeAnswer
     if !within_limit(areas) {
         return VolumeAnswer::Refused(Refusal::TotalAreaPassed);
     }
-    let d = depth.0;
-    if Depth::HIGHEST < d {
+    if Depth::HIGHEST < depth.0 {
         return VolumeAnswer::Refused(Refusal::AmountOutOfRange);
     }
     let sheet = runoff::sheet();
     if !within_largest(&sheet, areas) {
         return VolumeAnswer::Refused(Refusal::PastLargest);
     }
-    VolumeAnswer::Granted(Volume(volume_at(&sheet, areas, d)))
+    VolumeAnswer::Granted(volume_at(&sheet, areas, depth))
 }
 
 // The depth of a volume, from six areas.
@@ -192,15 +191,14 @@ pub fn depth_of(areas: Areas, volume: Volume) -> DepthAnswer
     if !within_limit(areas) {
         return DepthAnswer::Refused(Refusal::TotalAreaPassed);
     }
-    let v = volume.0;
-    if units::LARGEST < v {
+    if units::LARGEST < volume.0 {
         return DepthAnswer::Refused(Refusal::AmountOutOfRange);
     }
     let sheet = runoff::sheet();
     if !within_largest(&sheet, areas) {
         return DepthAnswer::Refused(Refusal::PastLargest);
     }
-    DepthAnswer::Granted(Depth(first_above(&sheet, areas, v) - 1))
+    DepthAnswer::Granted(depth_within(&sheet, areas, volume))
 }
 
 // The six areas of a site beside its total area, or beside the refusal of its record; then they are zero.

@@ -1,7 +1,7 @@
 -- `credit::depth_in` meets its contract, case by case.
 -- Assumes nothing.
 use mathlib.Core.Path.{sym, ap}
-use Rattle.credit.specs.Working.{depthIn}
+use Rattle.credit.specs.Inner.{depthIn}
 use borrow.Author.Needs.{needs}
 use Rattle.credit.proofs.depth_in.Statement.{statement}
 use Rattle.credit.proofs.depth_in.Tie as tie

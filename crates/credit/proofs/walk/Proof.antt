@@ -4,7 +4,7 @@ use borrow.Author.Needs.{needs}
 use mathlib.Core.List.{List}
 use mathlib.Core.Path.{_∙_, ap}
 use Prim.Native.Nat.{ℕ}
-use Rattle.credit.specs.Working.{surveyed}
+use Rattle.credit.specs.Inner.{surveyed}
 use Rattle.credit.proofs.walk.Statement.{statement}
 use Rattle.credit.proofs.walk.Tie as tie
 

@@ -27,8 +27,8 @@ sub-t15 c = search needs
 
 mul-t16 : tie.Need-mul-t16
 mul-t16 c =
-    let p = c .before .before .before .before .before .before .before .pre in
-    record { fits = lt-of-le-of-lt (under-fits (p .0) (p .1) (c .width .ensures)) (lit< tt) }
+    let p = c .before .before .before .before .before .before .before .before .before .pre in
+    record { fits = lt-of-le-of-lt (under-fits (p .0) (p .1) (c .before .before .width .ensures)) (lit< tt) }
 
 returns : tie.Need-returns
 returns c = search (two-is, needs)

@@ -26,11 +26,11 @@ mul-t9 c = search needs
 shared-slice-read-t11 : tie.Need-shared-slice-read-t11
 shared-slice-read-t11 c = search needs
 
-mul-t12 : tie.Need-mul-t12
-mul-t12 c = search needs
+mul-t13 : tie.Need-mul-t13
+mul-t13 c = search needs
 
-shared-slice-read-t14 : tie.Need-shared-slice-read-t14
-shared-slice-read-t14 c = search needs
+shared-slice-read-t15 : tie.Need-shared-slice-read-t15
+shared-slice-read-t15 c = search needs
 
 returns : tie.Need-returns
 returns c = search (mix-two, needs)
@@ -51,8 +51,8 @@ choose-spec =
     add-next
     mul-t9
     shared-slice-read-t11
-    mul-t12
-    shared-slice-read-t14
+    mul-t13
+    shared-slice-read-t15
     returns
     returns-2
     returns-3)

@@ -12,10 +12,10 @@ segment-requires : tie.Need-segment-requires
 segment-requires c κs = search needs
 
 sub-result : tie.Need-sub-result
-sub-result c = rw (c .segment .ensures) (segment-some (c .before .before .pre))
+sub-result c = search (segment-some, needs)
 
 returns : tie.Need-returns
-returns c = rw (c .segment .ensures) (fastest-is (c .before .before .pre))
+returns c = search (fastest-is, needs)
 
 pub fastest-spec : {M : Type 1} → statement M
 fastest-spec = tie.close (tie.spec add-segment segment-requires sub-result returns)

@@ -7,7 +7,7 @@ use Rattle.curve.proofs.least.Tie as tie
 
 abbrev Inv-loop : tie.InvT-loop
 Inv-loop depths rates percents curves target low₀ high₀ percent₀ trials₀ low high percent trials =
-    Searching depths percents curves target trials low high percent
+    Searching depths percents curves (target .0) trials low high (percent .0)
 
 abbrev μ-loop : tie.MeasureT-loop
 μ-loop depths rates percents curves target low₀ high₀ percent₀ trials₀ low high percent trials = trials

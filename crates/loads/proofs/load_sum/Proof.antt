@@ -5,12 +5,12 @@ use Prim.Native.Nat.{_-_}
 use mathlib.Core.Path.{_≡_, sym, _∙_}
 use lib.ListN.{length, length-map}
 use Rattle.site.specs.Parts.{mostParts}
-use Rattle.loads.proofs.Summing.{Loading, load-starts, load-ends, product-fits, sum-fits, load-next}
+use Rattle.loads.proofs.Summing.{Loading, load-starts, load-ends, area-small, sum-fits, load-next}
 use Rattle.loads.proofs.load_sum.Statement.{statement}
 use Rattle.loads.proofs.load_sum.Tie as tie
 
 abbrev Inv-loop : tie.InvT-loop
-Inv-loop rates site count sum₀ i₀ sum i = Loading rates site i sum
+Inv-loop rates site count sum₀ i₀ sum i = Loading rates site i (sum .0)
 
 abbrev μ-loop : tie.MeasureT-loop
 μ-loop rates site count sum₀ i₀ sum i = count - i
@@ -27,18 +27,11 @@ mul-part c = search needs
 element-copy-out-part : tie.Need-element-copy-out-part Inv-loop μ-loop
 element-copy-out-part c = search needs
 
-rate-of-requires : tie.Need-rate-of-requires Inv-loop μ-loop
-rate-of-requires c κs = search needs
+part-load-requires : tie.Need-part-load-requires Inv-loop μ-loop
+part-load-requires c κs = search (area-small, needs)
 
-mul-sum : tie.Need-mul-sum Inv-loop μ-loop
-mul-sum c =
-    let turn = c .before .before .before .before in
-    product-fits _ _ _ _ (turn .before .loop .inv) (turn .loop-test .taken) _ (c .before .rate-of .ensures .1)
-
-add-sum : tie.Need-add-sum Inv-loop μ-loop
-add-sum c =
-    let turn = c .before .before .before .before in
-    sum-fits _ _ _ _ (turn .before .loop .inv) (turn .loop-test .taken) _ (c .before .rate-of .ensures .1)
+add-t14 : tie.Need-add-t14 Inv-loop μ-loop
+add-t14 c = search (sum-fits, needs)
 
 add-i : tie.Need-add-i Inv-loop μ-loop
 add-i c = search needs
@@ -47,9 +40,7 @@ loop-less : tie.Need-loop-less Inv-loop μ-loop
 loop-less c = search needs
 
 loop-again : tie.Need-loop-again Inv-loop μ-loop
-loop-again c =
-    let turn = c .before .before .before .before in
-    load-next _ _ _ _ (turn .before .loop .inv) (turn .loop-test .taken) _ (c .before .rate-of .ensures .1) (c .before .rate-of .ensures .0)
+loop-again c = search (load-next, needs)
 
 returns : tie.Need-returns Inv-loop μ-loop
 returns c = search (load-ends, needs)
@@ -63,9 +54,8 @@ load-sum-spec =
     loop-holds
     mul-part
     element-copy-out-part
-    rate-of-requires
-    mul-sum
-    add-sum
+    part-load-requires
+    add-t14
     add-i
     loop-less
     loop-again

@@ -3,17 +3,15 @@
 -- Assumes nothing.
 use borrow.Author.Needs.{needs}
 use Prim.Native.Nat.{_-_}
-use native.Mathlib.Nat.{lt-of-le-of-lt, le-trans}
-use lib.Dec.{lit<}
 use mathlib.Core.Path.{_≡_, sym, _∙_}
 use lib.ListN.{length, length-map}
-use Rattle.site.specs.Parts.{mostParts, partsOf, imperviousOf}
-use Rattle.site.proofs.Sums.{Summed, sum-starts, sum-next, sum-within, sum-ends, impervious-le}
+use Rattle.site.specs.Parts.{mostParts, imperviousOf}
+use Rattle.site.proofs.Sums.{Summed, sum-starts, sum-next, sum-ends, impervious-fits}
 use Rattle.site.proofs.impervious_sum.Statement.{statement}
 use Rattle.site.proofs.impervious_sum.Tie as tie
 
 abbrev Inv-loop : tie.InvT-loop
-Inv-loop site count sum₀ place₀ sum place = Summed imperviousOf site place sum
+Inv-loop site count sum₀ place₀ sum place = Summed imperviousOf site place (sum .0)
 
 abbrev μ-loop : tie.MeasureT-loop
 μ-loop site count sum₀ place₀ sum place = count - place
@@ -32,12 +30,8 @@ element-copy-out-part c = search needs
 impervious-part-requires : tie.Need-impervious-part-requires Inv-loop μ-loop
 impervious-part-requires c κs = search needs
 
-add-sum : tie.Need-add-sum Inv-loop μ-loop
-add-sum c =
-    let start = c .before .before .before .before in
-    let h = sum-within _ _ _ _ _ (c .before .before .before .loop .inv) (c .before .before .loop-test .taken) (c .impervious-part .ensures) in
-    let l = impervious-le (partsOf (start .args .t1)) in
-    record { fits = lt-of-le-of-lt h (lt-of-le-of-lt (le-trans l (start .pre .total)) (lit< tt)) }
+add-t13 : tie.Need-add-t13 Inv-loop μ-loop
+add-t13 c = search (impervious-fits, needs)
 
 add-place : tie.Need-add-place Inv-loop μ-loop
 add-place c = search needs
@@ -46,8 +40,7 @@ loop-less : tie.Need-loop-less Inv-loop μ-loop
 loop-less c = search needs
 
 loop-again : tie.Need-loop-again Inv-loop μ-loop
-loop-again c =
-    sum-next _ _ _ _ _ (c .before .before .before .loop .inv) (c .before .before .loop-test .taken) (c .impervious-part .ensures)
+loop-again c = search (sum-next, needs)
 
 returns : tie.Need-returns Inv-loop μ-loop
 returns c = search (sum-ends, needs)
@@ -62,7 +55,7 @@ impervious-sum-spec =
     mul-part
     element-copy-out-part
     impervious-part-requires
-    add-sum
+    add-t13
     add-place
     loop-less
     loop-again

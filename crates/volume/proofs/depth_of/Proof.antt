@@ -1,8 +1,7 @@
--- `volume::depth_of` meets its contract: the tests that led to each answer are the definition's, and V(0) = 0 is not above any volume.
+-- `volume::depth_of` meets its contract: the tests that led to each answer are the definition's.
 -- Assumes nothing.
 use borrow.Author.Needs.{needs}
 use Rattle.volume.proofs.Answered.{six-known, depth-crowded, depth-too-large, depth-past, depth-granted}
-use Rattle.volume.proofs.Reaching.{some-within}
 use Rattle.volume.proofs.depth_of.Statement.{statement}
 use Rattle.volume.proofs.depth_of.Tie as tie
 
@@ -24,11 +23,8 @@ within-largest-requires c κs = (search needs, search (six-known, needs))
 returns-3 : tie.Need-returns-3
 returns-3 c = search (depth-past, needs)
 
-first-above-requires : tie.Need-first-above-requires
-first-above-requires c κs = (search needs, search (six-known, needs))
-
-sub-t14 : tie.Need-sub-t14
-sub-t14 c = search (some-within, needs)
+depth-within-requires : tie.Need-depth-within-requires
+depth-within-requires c κs = (search needs, search (six-known, needs))
 
 returns-4 : tie.Need-returns-4
 returns-4 c = search (depth-granted, needs)
@@ -43,6 +39,5 @@ depth-of-spec =
     sheet-requires
     within-largest-requires
     returns-3
-    first-above-requires
-    sub-t14
+    depth-within-requires
     returns-4)

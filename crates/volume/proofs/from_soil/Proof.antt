@@ -1,7 +1,7 @@
 -- `volume::from_soil` meets its contract: on the constant sheet the look-up at a grid depth finds the runoff.
 -- Assumes nothing.
 use borrow.Author.Needs.{needs}
-use Rattle.volume.proofs.Evaluation.{soil-fits, soil-product, soil-most, soil-small, never-refused}
+use Rattle.volume.proofs.Evaluation.{soil-is, soil-most, soil-small, soil-fits, never-refused}
 use Rattle.volume.proofs.from_soil.Statement.{statement}
 use Rattle.volume.proofs.from_soil.Tie as tie
 
@@ -11,18 +11,21 @@ entry-requires c κs = search needs
 enum-known-found : tie.Need-enum-known-found
 enum-known-found c = search needs
 
-mul-result : tie.Need-mul-result
-mul-result c = search (soil-fits, needs)
+mul-t8 : tie.Need-mul-t8
+mul-t8 c = search needs
+
+mul-t9 : tie.Need-mul-t9
+mul-t9 c = search (soil-fits, needs)
 
 enum-told : tie.Need-enum-told
 enum-told c = search needs
 
 returns : tie.Need-returns
-returns c = (search (soil-product, needs), search (soil-most, needs), search (soil-small, needs))
+returns c = (search (soil-is, needs), search (soil-most, needs), search (soil-small, needs))
 
 returns-2 : tie.Need-returns-2
 returns-2 c = absurd (search (never-refused, needs))
 
 pub from-soil-spec : {M : Type 1} → statement M
 from-soil-spec =
-    tie.close (tie.spec entry-requires enum-known-found mul-result enum-told returns returns-2)
+    tie.close (tie.spec entry-requires enum-known-found mul-t8 mul-t9 enum-told returns returns-2)

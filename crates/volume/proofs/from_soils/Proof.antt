@@ -1,7 +1,7 @@
--- `volume::from_soils` meets its contract: five products, which together stay within the limit.
+-- `volume::from_soils` meets its contract: five volumes, which together stay within the limit.
 -- Assumes nothing.
 use borrow.Author.Needs.{needs}
-use Rattle.volume.proofs.Evaluation.{each-small, soils-most}
+use Rattle.volume.proofs.Evaluation.{each-small, soils-are, soils-most}
 use Rattle.volume.proofs.from_soils.Statement.{statement}
 use Rattle.volume.proofs.from_soils.Tie as tie
 
@@ -35,20 +35,20 @@ array-copy-out-from-soil-5 c = search needs
 from-soil-requires-5 : tie.Need-from-soil-requires-5
 from-soil-requires-5 c κs = (search needs, search (each-small, needs))
 
-add-result : tie.Need-add-result
-add-result c = search needs
+add-t22 : tie.Need-add-t22
+add-t22 c = search needs
 
-add-result-2 : tie.Need-add-result-2
-add-result-2 c = search needs
+add-t23 : tie.Need-add-t23
+add-t23 c = search needs
 
-add-result-3 : tie.Need-add-result-3
-add-result-3 c = search needs
+add-t24 : tie.Need-add-t24
+add-t24 c = search needs
 
-add-result-4 : tie.Need-add-result-4
-add-result-4 c = search needs
+add-t25 : tie.Need-add-t25
+add-t25 c = search needs
 
 returns : tie.Need-returns
-returns c = (search needs, search (soils-most, needs))
+returns c = (search (soils-are, needs), search (soils-most, needs))
 
 pub from-soils-spec : {M : Type 1} → statement M
 from-soils-spec =
@@ -64,8 +64,8 @@ from-soils-spec =
     from-soil-requires-4
     array-copy-out-from-soil-5
     from-soil-requires-5
-    add-result
-    add-result-2
-    add-result-3
-    add-result-4
+    add-t22
+    add-t23
+    add-t24
+    add-t25
     returns)

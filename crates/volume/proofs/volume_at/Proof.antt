@@ -1,4 +1,4 @@
--- `volume::volume_at` meets its contract: six products, times 121.
+-- `volume::volume_at` meets its contract: the volume of the impervious area and that of the soils.
 -- Assumes nothing.
 use borrow.Author.Needs.{needs}
 use Rattle.volume.proofs.Evaluation.{each-small, volume-is}
@@ -14,11 +14,8 @@ from-impervious-requires c κs = (search (each-small, needs), search needs)
 from-soils-requires : tie.Need-from-soils-requires
 from-soils-requires c κs = search needs
 
-add-result : tie.Need-add-result
-add-result c = search needs
-
-mul-result : tie.Need-mul-result
-mul-result c = search needs
+add-t10 : tie.Need-add-t10
+add-t10 c = search needs
 
 returns : tie.Need-returns
 returns c = search (volume-is, needs)
@@ -30,6 +27,5 @@ volume-at-spec =
     array-copy-out-from-impervious
     from-impervious-requires
     from-soils-requires
-    add-result
-    mul-result
+    add-t10
     returns)

@@ -4,7 +4,7 @@ use mathlib.Core.Path.{refl}
 use Rattle.text.specs.Part.{partOf}
 use Rattle.text.specs.Pieces.{comma, indexOf, pieces, joined}
 use Rattle.text.specs.Words.{rowsFrom, rowsOf}
-use Rattle.text.proofs.Standing.{word-within}
+use Rattle.job.proofs.Fields.{word-within}
 use Rattle.job.proofs.AreaLines.{area-read}
 use borrow.Author.Needs.{needs}
 use Rattle.job.proofs.areas.read_area.Statement.{statement}

@@ -4,7 +4,7 @@ use mathlib.Core.Path.{refl}
 use Rattle.text.specs.Part.{partOf}
 use Rattle.text.specs.Pieces.{lineFeed, indexOf, pieces, joined}
 use Rattle.text.specs.Words.{rowsFrom, rowsOf}
-use Rattle.text.proofs.Standing.{word-within}
+use Rattle.job.proofs.Fields.{word-within}
 use Rattle.job.proofs.Heads.{practice-line, nutrient-line, mode-line, rate-line, task-line, amount-line, head-read}
 use borrow.Author.Needs.{needs}
 use Rattle.job.proofs.head.read_head.Statement.{statement}
