@@ -1,5 +1,5 @@
--- Demands 2 and 3: what is promised of crediting and sizing, for every lent sheet and every published practice, every site record,
--- every rate and both modes, through the numbers and values that are given back. Proved in proofs/Promises, Granting and Ordering.
+-- The demands, of site records and sheets: what is promised of crediting and sizing, for every lent sheet and every published practice,
+-- every site record, every rate and both modes, through the numbers and values given back. Proved in proofs/Promises, Granting and Ordering.
 -- Assumes nothing.
 use Prim.Native.Nat.{ℕ, _≤_, _<_}
 use mathlib.Core.Bool.{Bool, true, false}
