@@ -4,10 +4,11 @@ use Prim.Native.Nat.{ℕ}
 use mathlib.Core.Bool.{Bool, true, false}
 use mathlib.Core.List.{List, [], _∷_}
 use mathlib.Core.Logic.{_⊎_, inl, inr, ⊎-elim, _↔_}
-use mathlib.Core.Path.{_≡_, refl, sym, _∙_, ap}
+use mathlib.Core.Path.{_≡_, refl, sym, _∙_, ap, subst}
 use native.Mathlib.Omega.{arith}
 use lib.Dec.{eqb}
 use borrow.Author.Tests.{eq-eqb, ne-eqb}
+use Rattle.laws.proofs.Order.{never-both}
 use Rattle.refusal.specs.declared.Refusal.{Refusal}
 use Rattle.refusal.specs.declared.Refusal.the-variants as refused
 use Rattle.refusal.specs.Refusal.{numberOf, granted}
@@ -43,25 +44,21 @@ use Rattle.answer.specs.declared.Outcome.the-variants.{Granted, Refused, BadShe
 use Rattle.answer.specs.Outcomes.{given, faultLine}
 use Rattle.calculator.specs.Outcome.{ofLoad, ofCredit, ofLoadJob, ofTask, ofReading, outcomeOf}
 use Rattle.calculator.specs.Promises.{Answered, FaultLine, Reads, InALine, RefusalFits, LoadJob}
+use Rattle.site.proofs.Promises.{given-some}
+use Rattle.calculator.proofs.Finding.{does-not-read}
 use Rattle.calculator.proofs.InTexts.{worked-out, same-given, no-line}
 
 -- A number that is none of those four does not arise in a line.
 not-in-a-line : (n : ℕ) → elsewhere n ≡ true → InALine n → ⊥
 not-in-a-line n h l =
-    ⊎-elim (λ (e : n ≡ 1). off (rw e at h))
-    (⊎-elim (λ (e : n ≡ 2). off (rw e at h)) (⊎-elim (λ (e : n ≡ 3). off (rw e at h)) (λ (e : n ≡ 14). off (rw e at h))))
+    ⊎-elim (λ (e : n ≡ 1). never-both (rw e at h) refl)
+    (⊎-elim (λ (e : n ≡ 2). never-both (rw e at h) refl)
+    (⊎-elim (λ (e : n ≡ 3). never-both (rw e at h) refl) (λ (e : n ≡ 14). never-both (rw e at h) refl)))
     l
-  where
-    off : false ≡ true → ⊥
-    off e = let z : _≡_ {A = ℕ} 0 1 = cc in omega arith
 
 credit-elsewhere : (sheet : Sheet) (wanted : Wanted) (n : Nutrient) (s : Site) (mode : Mode) (r : ℕ) → areaGiven (judged s) .0 ≡ granted
     → elsewhere (creditGiven (answerOf sheet wanted n s mode r) .answer) ≡ true
-credit-elsewhere sheet wanted n s mode r = told (judged s) refl
-  where
-    told : (x : AreaAnswer) → judged s ≡ x → areaGiven x .0 ≡ granted → elsewhere (creditGiven (answerOf sheet wanted n s mode r) .answer) ≡ true
-    told (area.Granted total) e f = answered-elsewhere sheet wanted n s mode r total e
-    told (area.Refused why) e f = absurd (refusal-not-granted why f)
+credit-elsewhere sheet wanted n s mode r f = let g = given-some (judged s) f in answered-elsewhere sheet wanted n s mode r (g .0) (g .1)
 
 -- The load of a record that is judged fine is the sum, and is granted.
 load-sum : (n : Nutrient) (s : Site) → areaGiven (judged s) .0 ≡ granted → loadAnswer n s ≡ load.Granted (record { 0 = loadOf (exportRates n) (partsOf s) })
@@ -75,11 +72,21 @@ load-sum n s f = told (loadAnswer n s) (load-granted-exactly n s (loadOf (export
 reads-fine : (text : List ℕ) (j : Job) (s : Site) → Reads text j s → areaGiven (judged s) .0 ≡ granted
 reads-fine text j s h = rw h at (site-beside text .0 (rw h))
 
+zero-or-not : (n : ℕ) → (n ≡ 0) ⊎ (n ≡ 0 → ⊥)
+zero-or-not ℕ.zero = inl refl
+zero-or-not (ℕ.suc n) = inr (λ z. omega arith)
+
 module _ (j : Job) (s : Site) (f : areaGiven (judged s) .0 ≡ granted) where
-  pub load-amounts : (j .amount ≡ 0 → ofLoadJob j s ≡ Granted (figures (loadOf (exportRates (j .nutrient)) (partsOf s)) 0 0 0 0))
+  load-amounts : (j .amount ≡ 0 → ofLoadJob j s ≡ Granted (figures (loadOf (exportRates (j .nutrient)) (partsOf s)) 0 0 0 0))
       × ((j .amount ≡ 0 → ⊥) → ofLoadJob j s ≡ Refused refused.AmountOutOfRange 0)
   unfolding ofLoadJob
   load-amounts = (λ e. simp (eq-eqb (j .amount) 0 e, load-sum (j .nutrient) s f), λ e. simp (ne-eqb (j .amount) 0 e))
+
+  -- What holds of both holds of a load job's outcome.
+  either-amount : (P : Outcome → Type 0) → P (Granted (figures (loadOf (exportRates (j .nutrient)) (partsOf s)) 0 0 0 0))
+      → P (Refused refused.AmountOutOfRange 0) → P (ofLoadJob j s)
+  either-amount P g r =
+      ⊎-elim (λ (z : j .amount ≡ 0). subst P (sym (load-amounts .0 z)) g) (λ (z : j .amount ≡ 0 → ⊥). subst P (sym (load-amounts .1 z)) r) (zero-or-not (j .amount))
 
 pub load-job : LoadJob
 unfolding ofLoadJob
@@ -89,37 +96,29 @@ load-job sheet text j s h e =
     let zero : j .amount ≡ 0 → Answered sheet text ≡ creditGiven (credit.Granted (figures (loadOf (exportRates (j .nutrient)) (partsOf s)) 0 0 0 0)) =
     λ z. w ∙ rw e (ap given (load-amounts j s f .0 z)) in
     let other : (j .amount ≡ 0 → ⊥) → Answered sheet text ≡ creditGiven (credit.Refused refused.AmountOutOfRange) =
-    λ z. w ∙ rw e (ap given (load-amounts j s f .1 z)) in
-    ((λ g. amount-is (j .amount) (λ z. refusal-not-granted refused.AmountOutOfRange (rw (other z) at g)), λ z. rw (zero z)), zero, other)
-  where
-    amount-is : (n : ℕ) → ((n ≡ 0 → ⊥) → ⊥) → n ≡ 0
-    amount-is ℕ.zero k = refl
-    amount-is (ℕ.suc n) k = absurd (k (λ z. omega arith))
-
-zero-or-not : (n : ℕ) → (n ≡ 0) ⊎ (n ≡ 0 → ⊥)
-zero-or-not ℕ.zero = inl refl
-zero-or-not (ℕ.suc n) = inr (λ z. omega arith)
+    λ z. w ∙ rw e (ap given (load-amounts j s f .1 z)) in (
+      (
+        λ g. ⊎-elim (λ (z : j .amount ≡ 0). z) (λ (z : j .amount ≡ 0 → ⊥). absurd (refusal-not-granted refused.AmountOutOfRange (rw (other z) at g))) (zero-or-not (j .amount)),
+        λ z. rw (zero z),
+      ),
+      zero,
+      other,
+    )
 
 -- What a text that reads is refused with does not arise in a line.
 task-elsewhere : (t : Task) (sheet : Sheet) (j : Job) (s : Site) → areaGiven (judged s) .0 ≡ granted
     → elsewhere (given (ofTask t sheet j s) .answer) ≡ true
-task-elsewhere task.Load sheet j s f =
-    ⊎-elim (λ (z : j .amount ≡ 0). rw (load-amounts j s f .0 z)) (λ (z : j .amount ≡ 0 → ⊥). rw (load-amounts j s f .1 z)) (zero-or-not (j .amount))
+task-elsewhere task.Load sheet j s f = either-amount j s f (λ o. elsewhere (given o .answer) ≡ true) refl refl
 task-elsewhere task.Credit sheet j s f = rw (same-given (answerOf sheet (creditOf (j .amount)) (j .nutrient) s (j .mode) (j .rate .0))) (credit-elsewhere sheet (creditOf (j .amount)) (j .nutrient) s (j .mode) (j .rate .0) f)
 task-elsewhere task.Size sheet j s f = rw (same-given (answerOf sheet (sizeOf (j .amount)) (j .nutrient) s (j .mode) (j .rate .0))) (credit-elsewhere sheet (sizeOf (j .amount)) (j .nutrient) s (j .mode) (j .rate .0) f)
 
 -- and it has no line.
 task-line : (t : Task) (sheet : Sheet) (j : Job) (s : Site) → areaGiven (judged s) .0 ≡ granted → faultLine (ofTask t sheet j s) ≡ 0
-task-line task.Load sheet j s f =
-    ⊎-elim (λ (z : j .amount ≡ 0). rw (load-amounts j s f .0 z)) (λ (z : j .amount ≡ 0 → ⊥). rw (load-amounts j s f .1 z)) (zero-or-not (j .amount))
+task-line task.Load sheet j s f = either-amount j s f (λ o. faultLine o ≡ 0) refl refl
 task-line task.Credit sheet j s f = no-line (answerOf sheet (creditOf (j .amount)) (j .nutrient) s (j .mode) (j .rate .0))
 task-line task.Size sheet j s f = no-line (answerOf sheet (sizeOf (j .amount)) (j .nutrient) s (j .mode) (j .rate .0))
 
 module _ (sheet : ℕ → Sheet) (text : List ℕ) where
-  unread : (why : Refusal) (k : ℕ) → readingOf text .answer ≡ job.Refused why k → outcomeOf sheet text ≡ Refused why k
-  unfolding outcomeOf
-  unread why k h = rw h
-
   in-a-line : (number line : ℕ) → InALine number
       → (((Answered sheet text .answer ≡ number) × (FaultLine sheet text ≡ line)) ↔ (readingGiven (readingOf text .answer) ≡ (number, line)))
   in-a-line number line l = told (readingOf text .answer) refl
@@ -127,7 +126,7 @@ module _ (sheet : ℕ → Sheet) (text : List ℕ) where
       told : (a : JobAnswer) → readingOf text .answer ≡ a
           → (((Answered sheet text .answer ≡ number) × (FaultLine sheet text ≡ line)) ↔ (readingGiven (readingOf text .answer) ≡ (number, line)))
       told (job.Refused why k) h =
-          rw (unread why k h, h) (
+          rw (← does-not-read sheet text refl why k h, h) (
             λ e. λ i. (e .0 i, e .1 i),
             λ e. (ap (λ (p : ℕ × ℕ). p .0) e, ap (λ (p : ℕ × ℕ). p .1) e),
           )

@@ -14,13 +14,13 @@ use Rattle.job.specs.declared.Task.{Task}
 use Rattle.job.specs.declared.Task.the-variants as task
 use Rattle.answer.specs.Outcomes.{given, faultLine}
 use Rattle.calculator.specs.Outcome.{ofCredit, ofTask, outcomeOf}
+use Rattle.calculator.proofs.Finding.{reads}
 use Rattle.calculator.specs.Promises.{Answered, FaultLine, Reads, asking, CreditJob, SizeJob, TypedBack, MoreStorageInTexts, HigherTargetInTexts}
 
 -- A text that reads has the outcome of its task.
 pub worked-out : (sheet : ℕ → Sheet) (text : List ℕ) {j : Job} {s : Site} → Reads text j s
     → outcomeOf sheet text ≡ ofTask (j .task) (sheet (j .practice)) j s
-unfolding outcomeOf
-worked-out sheet text h = rw h
+worked-out sheet text {j} h = sym (reads sheet text (sym h) j refl refl)
 
 -- The outcome of a credit answer gives what the answer gives, and no line.
 pub same-given : (a : CreditAnswer) → given (ofCredit a) ≡ creditGiven a

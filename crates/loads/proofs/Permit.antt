@@ -1,14 +1,14 @@
 -- The load under the permit's tables: it never passes 10^13, so the record alone decides.
 -- Assumes nothing.
-use Prim.Native.Nat.{ℕ, _*_, _≤_}
-use mathlib.Core.List.{List, [], _∷_}
+use Prim.Native.Nat.{ℕ, _≤_}
+use mathlib.Core.List.{List}
 use mathlib.Core.Path.{_≡_, refl, sym, _∙_, ap}
 use native.Mathlib.Nat.{mul-le-mul-left}
 use native.Mathlib.Omega.{arith}
 use lib.Dec.{leb}
 use lib.ListN.{getD}
 use borrow.Author.Tests.{le-leb, leb-true}
-use Rattle.laws.specs.Sum.{sumOf}
+use Rattle.laws.proofs.Sum.{sum-scaled}
 use Rattle.laws.proofs.Table.{carry}
 use Rattle.refusal.specs.declared.Refusal.{Refusal}
 use Rattle.refusal.specs.Refusal.{numberOf, granted}
@@ -25,28 +25,21 @@ use Rattle.site.specs.Parts.{partsOf, areaOf, totalArea}
 use Rattle.site.specs.Judging.{judged}
 use Rattle.site.specs.Judging as site
 use Rattle.site.proofs.Judging.{judged-fine}
+use Rattle.site.proofs.Promises.{given-refused, given-some}
 use Rattle.loads.specs.declared.LoadAnswer.{LoadAnswer}
 use Rattle.loads.specs.declared.LoadAnswer.the-variants.{Granted, Refused}
 use Rattle.loads.specs.Rates.{tableMost, exportRates, ratePlace}
-use Rattle.loads.specs.Loads.{loadOf, loadUnder, loadAnswer, given}
+use Rattle.loads.specs.Loads.{partLoad, loadOf, loadUnder, loadAnswer, given}
 use Rattle.loads.proofs.Places.{place-below}
 
 rate-most : (n : Nutrient) (p : SubArea) → getD (exportRates n) (ratePlace p) 0 ≤ tableMost
 rate-most P p = leb-true _ _ (carry (λ k x. leb x tableMost) (exportRates P) refl (ratePlace p) (place-below p refl))
 rate-most N p = leb-true _ _ (carry (λ k x. leb x tableMost) (exportRates N) refl (ratePlace p) (place-below p refl))
 
-load-most : (n : Nutrient) (ps : List SubArea) → loadOf (exportRates n) ps ≤ tableMost * totalArea ps
-unfolding sumOf
-load-most n [] = omega arith
-load-most n (p ∷ ps) =
-    let m = mul-le-mul-left (areaOf p) (rate-most n p) in
-    let r = load-most n ps in
-    omega arith
-
 -- No load of a site within the limit of area passes 10^13.
 pub load-within : (n : Nutrient) (ps : List SubArea) → totalArea ps ≤ mostArea → loadOf (exportRates n) ps ≤ largest
 load-within n ps h =
-    let m = load-most n ps in
+    let m = sum-scaled tableMost (partLoad (exportRates n)) areaOf (λ p. let q = mul-le-mul-left (areaOf p) (rate-most n p) in omega arith) ps in
     omega arith
 
 module _ (n : Nutrient) (s : Site) where
@@ -69,15 +62,7 @@ module _ (n : Nutrient) (s : Site) where
       told (area.Refused why) e = absurd (refusal-not-granted why (ap (λ (g : ℕ × ℕ). g .0) (sym (answer-refused e) ∙ h)))
 
   pub fine-load : (a : ℕ) → site.given (judged s) .0 ≡ granted → loadOf (exportRates n) (partsOf s) ≡ a → given (loadAnswer n s) ≡ (granted, a)
-  fine-load a h l = told (judged s) refl
-    where
-      told : (x : AreaAnswer) → judged s ≡ x → given (loadAnswer n s) ≡ (granted, a)
-      told (area.Granted total) e = answer-fine e ∙ ap (λ (m : ℕ). (granted, m)) l
-      told (area.Refused why) e = absurd (refusal-not-granted why (sym (ap (λ (x : AreaAnswer). site.given x .0) e) ∙ h))
+  fine-load a h l = answer-fine (given-some (judged s) h .1) ∙ ap (λ (m : ℕ). (granted, m)) l
 
   pub refused-load : (site.given (judged s) .0 ≡ granted → ⊥) → given (loadAnswer n s) ≡ (site.given (judged s) .0, 0)
-  refused-load h = told (judged s) refl
-    where
-      told : (x : AreaAnswer) → judged s ≡ x → given (loadAnswer n s) ≡ (site.given (judged s) .0, 0)
-      told (area.Granted total) e = absurd (h (simp e))
-      told (area.Refused why) e = answer-refused e ∙ ap (λ (x : AreaAnswer). (site.given x .0, 0)) (sym e)
+  refused-load h = let r = given-refused (judged s) h in answer-refused (r .1) ∙ ap (λ (x : AreaAnswer). (site.given x .0, 0)) (sym (r .1))

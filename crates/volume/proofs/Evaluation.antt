@@ -22,7 +22,7 @@ use Rattle.runoff.specs.declared.RunoffDepth.{RunoffDepth}
 use Rattle.runoff.specs.Runoff.{entryOf, runoffOf, given}
 use Rattle.runoff.proofs.LineRule.{sheet-at, runoff-most}
 use Rattle.volume.specs.Areas.{areaAt, totalOf, soilsRunoff, volumeFrom}
-use Rattle.volume.specs.Inner.{Six, OnSheet}
+use Rattle.volume.specs.Inner.{fullest, Six, OnSheet}
 use Rattle.volume.proofs.Gathering.{at-most}
 
 -- Each of the six areas is within the limit.
@@ -50,7 +50,7 @@ module _ (a d : ℕ) where
   pub impervious-is : 36_300 * a * d ≡ 121 * (300 * d * a)
   impervious-is = omega arith
 
-  pub impervious-most : d ≤ highestDepth → 36_300 * a * d ≤ 7_260_000 * a
+  pub impervious-most : d ≤ highestDepth → 36_300 * a * d ≤ fullest * a
   impervious-most h =
       let m : 36_300 * a * d ≤ 36_300 * a * 200 = mul-le-mul-left (36_300 * a) h in
       omega arith
@@ -58,7 +58,7 @@ module _ (a d : ℕ) where
   pub impervious-fits : a ≤ mostArea → d ≤ highestDepth → Fits w64 (36_300 * a * d)
   impervious-fits l h =
       let m = impervious-most h in
-      let n : 36_300 * a * d ≤ 7_260_000 * mostArea = omega arith in
+      let n : 36_300 * a * d ≤ fullest * mostArea = omega arith in
       record { fits = lt-of-le-of-lt n (lit< tt) }
 
 module _ (sheet : List ℕ) (c : Column) (depth : Depth) (found : RunoffAnswer) (on : OnSheet sheet (depth .0)) (e : found ≡ entryOf sheet c depth) where
@@ -86,7 +86,7 @@ module _ (sheet : List ℕ) (c : Column) (depth : Depth) (found : RunoffAnswer) 
     pub soil-is : 121 * a * x .0 ≡ 121 * (a * runoffOf c d)
     soil-is = mul-assoc 121 a (x .0) ∙ ap (λ (n : ℕ). 121 * (a * n)) (found-is x f)
 
-    pub soil-most : 121 * a * x .0 ≤ 7_260_000 * a
+    pub soil-most : 121 * a * x .0 ≤ fullest * a
     soil-most =
         let m = runoff-most c d (on .grid) in
         let q = found-is x f in
@@ -94,15 +94,15 @@ module _ (sheet : List ℕ) (c : Column) (depth : Depth) (found : RunoffAnswer) 
         let p : 121 * a * x .0 ≤ 121 * a * 60_000 = mul-le-mul-left (121 * a) l in
         omega arith
 
-    pub soil-small : a ≤ mostArea → 121 * a * x .0 ≤ 7_260_000 * mostArea
+    pub soil-small : a ≤ mostArea → 121 * a * x .0 ≤ fullest * mostArea
     soil-small l = let m = soil-most in omega arith
 
     pub soil-fits : a ≤ mostArea → Fits w64 (121 * a * x .0)
     soil-fits l = record { fits = lt-of-le-of-lt (soil-small l) (lit< tt) }
 
 -- The sum over the soils, with what the impervious area can bring, stays within V(200) of the largest site.
-pub soils-most : (xs : List Area) (a b c d e : ℕ) → Six xs → a ≤ 7_260_000 * areaAt xs 1 → b ≤ 7_260_000 * areaAt xs 2 → c ≤ 7_260_000 * areaAt xs 3
-    → d ≤ 7_260_000 * areaAt xs 4 → e ≤ 7_260_000 * areaAt xs 5 → a + b + c + d + e + 7_260_000 * areaAt xs 0 ≤ 7_260_000 * mostArea
+pub soils-most : (xs : List Area) (a b c d e : ℕ) → Six xs → a ≤ fullest * areaAt xs 1 → b ≤ fullest * areaAt xs 2 → c ≤ fullest * areaAt xs 3
+    → d ≤ fullest * areaAt xs 4 → e ≤ fullest * areaAt xs 5 → a + b + c + d + e + fullest * areaAt xs 0 ≤ fullest * mostArea
 soils-most xs a b c d e s h i j k l =
     let m = all-small xs s in
     omega arith
@@ -118,7 +118,7 @@ unfolding volumeFrom
 volume-is xs d i p e f = omega arith
 
 -- V(200) from six areas is at most that of the largest site, all of it impervious.
-pub from-most : (xs : List Area) → Six xs → volumeFrom xs highestDepth ≤ 7_260_000_000_000
+pub from-most : (xs : List Area) → Six xs → volumeFrom xs highestDepth ≤ fullest * mostArea
 unfolding volumeFrom
 from-most xs s =
     let m = all-small xs s in

@@ -9,6 +9,10 @@ use Rattle.units.specs.Limits.{mostArea, highestDepth}
 use Rattle.runoff.specs.Runoff.{runoffSheet}
 use Rattle.volume.specs.Areas.{totalOf}
 
+-- V(200) of one hundredth of an acre of impervious area: 121 × 300 × 200. No hundredth of an acre of any cover has more.
+abbrev pub fullest : ℕ
+fullest = 7_260_000
+
 -- What is known of the six areas of a site.
 pub record Six (xs : List Area) : Type 0 where
   pub six : length xs ≡ 6

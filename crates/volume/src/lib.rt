@@ -8,7 +8,7 @@ ghost use Rattle.site.specs.Parts.{partsOf};
 ghost use Rattle.site.specs.Inner.{Fine};
 ghost use Rattle.volume.specs.Volume.{depthWithin};
 ghost use Rattle.volume.specs.Areas.{areaPlace, areaAt, areasOf, withinLimit, soilsRunoff, volumeFrom};
-ghost use Rattle.volume.specs.Inner.{Six, OnSheet};
+ghost use Rattle.volume.specs.Inner.{fullest, Six, OnSheet};
 ghost use Rattle.volume.specs.Answers.{notPast, gatheredAnswer, volumeAnswer, depthAnswer, volumeOn, depthOn};
 use refusal::Refusal;
 use runoff::RunoffAnswer;
@@ -66,7 +66,7 @@ fn six_areas(site: Site) -> Areas
 // An impervious area and a depth make a volume.
 fn from_impervious(area: Area, depth: Depth) -> Volume
     requires { ⌜ (area .0 ≤ mostArea) × (depth .0 ≤ highestDepth) ⌝ }
-    ensures { λ r. ⌜ (r .0 ≡ 121 * (300 * depth .0 * area .0)) × (r .0 ≤ 7_260_000 * area .0) ⌝ }
+    ensures { λ r. ⌜ (r .0 ≡ 121 * (300 * depth .0 * area .0)) × (r .0 ≤ fullest * area .0) ⌝ }
 {
     Volume(121 * 300 * area.0 * depth.0)
 }
@@ -75,7 +75,7 @@ fn from_impervious(area: Area, depth: Depth) -> Volume
 fn from_soil(sheet: &[u16; 1005], column: Column, area: Area, depth: Depth) -> Volume
     requires { ⌜ OnSheet (now sheet) (depth .0) ⌝ }
     requires { ⌜ area .0 ≤ mostArea ⌝ }
-    ensures { λ r. ⌜ (r .0 ≡ 121 * (area .0 * runoffOf column (depth .0))) × (r .0 ≤ 7_260_000 * area .0) × (r .0 ≤ 7_260_000 * mostArea) ⌝ }
+    ensures { λ r. ⌜ (r .0 ≡ 121 * (area .0 * runoffOf column (depth .0))) × (r .0 ≤ fullest * area .0) × (r .0 ≤ fullest * mostArea) ⌝ }
 {
     let found = runoff::entry(sheet, column, depth);
     match found {
@@ -88,7 +88,7 @@ fn from_soil(sheet: &[u16; 1005], column: Column, area: Area, depth: Depth) -> V
 fn from_soils(sheet: &[u16; 1005], areas: Areas, depth: Depth) -> Volume
     requires { ⌜ OnSheet (now sheet) (depth .0) ⌝ }
     requires { ⌜ Six (areas .of) ⌝ }
-    ensures { λ r. ⌜ (r .0 ≡ 121 * soilsRunoff (areas .of) (depth .0)) × (r .0 + 7_260_000 * areaAt (areas .of) 0 ≤ 7_260_000 * mostArea) ⌝ }
+    ensures { λ r. ⌜ (r .0 ≡ 121 * soilsRunoff (areas .of) (depth .0)) × (r .0 + fullest * areaAt (areas .of) 0 ≤ fullest * mostArea) ⌝ }
 {
     let of = areas.of;
     let a = from_soil(sheet, Column::A, of[1], depth);
