@@ -1,4 +1,4 @@
--- 01, "Job and answer text": the answer text, lines `key=value`, each ended by LF.
+-- Rules, "Job and answer text": the answer text, lines `key=value`, each ended by LF.
 -- Assumes nothing.
 use Prim.Native.Nat.{ℕ, _+_, _*_}
 use mathlib.Core.Bool.{cond}

@@ -1,4 +1,4 @@
--- 01, "The numbers given back": what a finished outcome gives, granted or refused.
+-- Rules, "The numbers given back": what a finished outcome gives, granted or refused.
 -- Assumes nothing.
 use Prim.Native.Nat.{ℕ}
 use Rattle.credit.specs.declared.CreditAnswer.the-variants as credit

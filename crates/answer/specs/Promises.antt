@@ -1,4 +1,4 @@
--- 01, "Job and answer text" and "The numbers given back": what is promised of the answer text and of its writing, as statements that
+-- Rules, "Job and answer text" and "The numbers given back": what is promised of the answer text and of its writing, as statements that
 -- proofs/Promises.antt proves.
 -- Assumes nothing.
 use Prim.Native.Nat.{ℕ, _-_, _≤_, _<_, _^_}

@@ -1,4 +1,4 @@
--- 01, "The numbers given back": writing the answer text, whose only refusal is 13, for a buffer that is shorter than the text.
+-- Rules, "The numbers given back": writing the answer text, whose only refusal is 13, for a buffer that is shorter than the text.
 -- Assumes nothing.
 use Prim.Native.Nat.{ℕ, _+_}
 use mathlib.Core.Bool.{Bool, cond}
@@ -26,7 +26,7 @@ writtenOf buf text = cond (tooShort buf text) (Refused BufferTooShort) (Granted 
 unfoldable pub bufferOf : List ℕ → List ℕ → List ℕ
 bufferOf buf text = cond (tooShort buf text) buf (pasted buf 0 text)
 
--- the paper's number and value: a refusal's value is 0
+-- the rules' number and value: a refusal's value is 0
 abbrev pub writtenGiven : Written → ℕ × ℕ
 writtenGiven (Granted n) = (granted, n)
 writtenGiven (Refused why) = (numberOf why, 0)

@@ -1,4 +1,4 @@
-// 01, "Job and answer text": a finished outcome, and its text written into a lent buffer.
+// Rules, "Job and answer text": a finished outcome, and its text written into a lent buffer.
 ghost use mathlib.Core.Path.{_≡_};
 ghost use Prim.Native.Nat.{_+_, _≤_, _<_};
 ghost use lib.ListN.{length};

@@ -1,4 +1,4 @@
--- Demand 1, proved of the definitions that the contracts cite.
+-- Rules, "The three demands", the first, proved of the definitions that the contracts cite.
 -- Assumes nothing.
 use Prim.Native.Nat.{ℕ}
 use mathlib.Core.Bool.{Bool, true, false}

@@ -1,4 +1,4 @@
--- 01's sample, from its bytes to the bytes of its answer, by computation of the definitions.
+-- The sample job, from its bytes to the bytes of its answer, by computation of the definitions.
 -- Assumes nothing.
 use mathlib.Core.List.{flatten}
 use mathlib.Core.Path.{refl}

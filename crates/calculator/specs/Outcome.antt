@@ -1,4 +1,4 @@
--- 01, "Job and answer text" and "The numbers given back": from a job text to its outcome.
+-- Rules, "Job and answer text" and "The numbers given back": from a job text to its outcome.
 -- Assumes nothing.
 use Prim.Native.Nat.{ℕ}
 use mathlib.Core.List.{List, [], _∷_}

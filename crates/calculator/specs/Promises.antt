@@ -1,5 +1,5 @@
--- The three demands, of job texts: what is promised of every text, on the tables and on every lent sheet, through the numbers and
--- values given back. Proved in proofs/Promises.antt and proofs/InTexts.antt.
+-- Rules, "The three demands", of job texts: what is promised of every text, on the tables and on every lent sheet, through the
+-- numbers and values given back. Proved in proofs/Promises.antt and proofs/InTexts.antt.
 -- Assumes nothing.
 use Prim.Native.Nat.{ℕ, _≤_, _<_}
 use mathlib.Core.List.{List, _++_}
@@ -47,7 +47,7 @@ pub record Zeros (g : Given) : Type 0 where
   pub volume : g .volume ≡ 0
   pub removed : g .removed ≡ 0
 
--- Demand 1, "it answers every job text": each is granted, and then no fault has a place, or is refused with a number that is not 0, and
+-- Demand 1, every job text is answered: each is granted, and then no fault has a place, or is refused with a number that is not 0, and
 -- then all result values but the place of the fault are zero. This is what the type of an outcome gives: it is true of every calculator.
 abbrev pub EveryTextAnswered : Type 0
 EveryTextAnswered =
@@ -73,7 +73,7 @@ InALine number =
     ⊎ ((number ≡ numberOf TotalAreaPassed)
     ⊎ (number ≡ numberOf SiteFull)))
 
--- "Bad input gets the numbered refusal that fits." A text is refused with 1, 2, 3 or 14 and a line exactly where its reading is refused
+-- Demand 1, a refusal is the one that fits: a text is refused with 1, 2, 3 or 14 and a line exactly where its reading is refused
 -- so, with that number and line; a text that reads has no line, and its number is that of its task's own answer, by LoadJob, CreditJob
 -- and SizeJob; and list and place are other than 0 only beside 5.
 abbrev pub RefusalFits : Type 0
@@ -118,9 +118,9 @@ abbrev pub asking : Job → Task → ℕ → Job
 asking j task amount =
     record { practice = j .practice; nutrient = j .nutrient; mode = j .mode; rate = j .rate; task = task; amount = amount }
 
--- Demand 3, "the volume given is credited with at least its target, and every smaller volume with less": where a size job is granted a
--- volume, every text that reads as the same job with task credit and that volume gives the same numbers, a credit of at least the target
--- among them; and with any smaller amount it is granted, with a credit below the target.
+-- Demand 3, the volume that is given is credited with at least its target, and every smaller volume with less: where a size job is
+-- granted a volume, every text that reads as the same job with task credit and that volume gives the same numbers, a credit of at
+-- least the target among them; and with any smaller amount it is granted, with a credit below the target.
 abbrev pub TypedBack : Type 0
 TypedBack =
     (sheet : ℕ → Sheet) (j : Job) (s : Site) (target : ℕ) (asked : List ℕ)
@@ -133,7 +133,7 @@ TypedBack =
     × (v < Answered sheet asked .volume
     → (Answered sheet typed .answer ≡ granted) × (Answered sheet typed .percent < target))
 
--- "More storage never lowers the percent", nor the removed load.
+-- More storage never lowers the percent, nor the removed load.
 abbrev pub MoreStorageInTexts : Type 0
 MoreStorageInTexts =
     (sheet : ℕ → Sheet) (j : Job) (s : Site) (v w : ℕ) (less more : List ℕ)
@@ -144,7 +144,7 @@ MoreStorageInTexts =
     → Answered sheet more .answer ≡ granted
     → (Answered sheet less .percent ≤ Answered sheet more .percent) × (Answered sheet less .removed ≤ Answered sheet more .removed)
 
--- "A higher target never gets a smaller volume."
+-- A higher target never gets a smaller volume.
 abbrev pub HigherTargetInTexts : Type 0
 HigherTargetInTexts =
     (sheet : ℕ → Sheet) (j : Job) (s : Site) (t u : ℕ) (lower higher : List ℕ)
@@ -155,7 +155,7 @@ HigherTargetInTexts =
     → Answered sheet higher .answer ≡ granted
     → Answered sheet lower .volume ≤ Answered sheet higher .volume
 
--- 01's sample, from its bytes to the bytes of its answer.
+-- The sample job, jobs/sample.job, from its bytes to the bytes of its answer.
 abbrev pub SampleAnswered : Type 0
 SampleAnswered =
     answerText
@@ -164,7 +164,7 @@ SampleAnswered =
     "practice=basin\nnutrient=N\nmode=step\nrate=0\ntask=load\namount=0\narea=ind,imp,-,1013\narea=com,per,C,185\narea=for,per,C,89\n"))
     ≡ bytes "answer=0\nload=1568350\ndepth=0\ncredit=0\nvolume=0\nremoved=0\n"
 
--- "Each lent buffer holds what it held before" where the writing is refused; where it is granted, all behind the text is as it was.
+-- A lent buffer holds what it held before where the writing is refused; where it is granted, all behind the text is as it was.
 abbrev pub BufferKept : Type 0
 BufferKept =
     (sheet : ℕ → Sheet) (text buf : List ℕ)

@@ -1,4 +1,5 @@
-// Demand 1: from a job text to its outcome, and to its answer text; on the published tables, or on a lent sheet in their place.
+// Rules, "The three demands", the first: from a job text to its outcome, and to its answer text; on the published tables, or on a
+// lent sheet in their place.
 ghost use mathlib.Core.Path.{_≡_};
 ghost use Rattle.credit.specs.Answers.{Sheet, answerOf};
 ghost use Rattle.answer.specs.Lines.{answerText};

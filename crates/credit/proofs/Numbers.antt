@@ -1,4 +1,4 @@
--- The starred numbers, by computation of the definitions.
+-- Rules, "Numbers to hold on to": the starred ones, by computation of the definitions.
 -- Assumes nothing.
 use mathlib.Core.Path.{refl}
 use Rattle.laws.specs.First.{firstFrom}

@@ -1,4 +1,5 @@
--- The promises of demands 2 and 3, proved: a granted answer opens the way to its figures, and the laws of the two depths compare them.
+-- Rules, "The three demands": the promises of the second and the third, proved: a granted answer opens the way to its figures, and
+-- the laws of the two depths compare them.
 -- Assumes nothing.
 use Prim.Native.Nat.{ℕ, _≤_, _<_}
 use mathlib.Core.Logic.{⊎-elim}

@@ -1,4 +1,4 @@
--- 01, "The numbers given back": credit and size judge the record before all else (14, 2, 3), then try 4 or 5, 6, 7, 8, 9, 15 and 10.
+-- Rules, "The numbers given back": credit and size judge the record before all else (14, 2, 3), then try 4 or 5, 6, 7, 8, 9, 15 and 10.
 -- Assumes nothing.
 use Prim.Native.Nat.{ℕ}
 use mathlib.Core.List.{List, [], _∷_}
@@ -62,7 +62,7 @@ bySheet (published practice) wanted n parts mode r =
 unfoldable pub answerOf : Sheet → Wanted → Nutrient → Site → Mode → ℕ → CreditAnswer
 answerOf sheet wanted n s mode r = afterJudging Refused (λ total. bySheet sheet wanted n (partsOf s) mode r) (judged s)
 
--- The paper's number and values: zeros for a refusal, but for the list and place of 5.
+-- The rules' number and values: zeros for a refusal, but for the list and place of 5.
 pub record Given : Type 0 where
   pub answer : ℕ
   pub list : ℕ

@@ -1,4 +1,4 @@
--- 01, "Curve sheets": crediting and sizing, by the site's load, its impervious area and its V, and by the percent at each depth.
+-- Rules, "Curve sheets": crediting and sizing, by the site's load, its impervious area and its V, and by the percent at each depth.
 -- Assumes nothing.
 use Prim.Native.Nat.{ℕ}
 use mathlib.Core.Bool.{Bool}

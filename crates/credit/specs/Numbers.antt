@@ -1,4 +1,4 @@
--- 01, "Numbers to hold on to": the starred ones, all together as one list, each with all the numbers that its call gives back. Proved
+-- Rules, "Numbers to hold on to": the starred ones, all together as one list, each with all the numbers that its call gives back. Proved
 -- in proofs/Numbers.antt.
 -- Assumes nothing.
 use Prim.Native.Nat.{ℕ}

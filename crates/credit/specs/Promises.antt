@@ -1,5 +1,6 @@
--- The demands, of site records and sheets: what is promised of crediting and sizing, for every lent sheet and every published practice,
--- every site record, every rate and both modes, through the numbers and values given back. Proved in proofs/Promises, Granting and Ordering.
+-- Rules, "The three demands", of site records and sheets: what is promised of crediting and sizing, for every lent sheet and every
+-- published practice, every site record, every rate and both modes, through the numbers and values given back. Proved in
+-- proofs/Promises, Granting and Ordering.
 -- Assumes nothing.
 use Prim.Native.Nat.{ℕ, _≤_, _<_}
 use mathlib.Core.Bool.{Bool, true, false}
@@ -58,9 +59,9 @@ abbrev pub isThere : Sheet → Nutrient → Bool
 isThere (lent ds rs ps) n = true
 isThere (published practice) n = isPublished practice n
 
--- What is refused nothing, in 01's words: a record of at most 32 sub-areas, each of which fits, of at most 1,000,000 in all; a sheet that is
--- there and keeps the rules; a rate that it takes, within 10,000 (0 on a sheet without rates) and not below its slowest; and some
--- impervious area. 15 does not arise: within these limits no load and no V(200) passes 10^13.
+-- What is refused nothing, by the rules: a record of at most 32 sub-areas, each of which fits, of at most 1,000,000 in all; a sheet
+-- that is there and keeps the rules; a rate that it takes, within 10,000 (0 on a sheet without rates) and not below its slowest; and
+-- some impervious area. 15 does not arise: within these limits no load and no V(200) passes 10^13.
 pub record Accepted (sheet : Sheet) (n : Nutrient) (s : Site) (r : ℕ) : Type 0 where
   pub count : s .count ≤ mostParts
   pub each-fits : allFit (partsOf s) ≡ true
@@ -91,8 +92,8 @@ pub record Begun (sheet : Sheet) (n : Nutrient) (s : Site) : Type 0 where
   pub fine : areaGiven (judged s) .0 ≡ granted
   pub there : isThere sheet n ≡ true
 
--- What is refused, and in which order: "a site record handed to any call is judged before all else", then "credit and size try 4 or 5,
--- then 6, 7, 8, 9, 15, 10". Each line supposes that nothing before it arises; 15 never does.
+-- What is refused, and in which order: the site record is judged before all else, and then 4 or 5, 6, 7, 8, 9, 15 and 10 are tried
+-- (Rules, "The numbers given back"). Each line supposes that nothing before it arises; 15 never does.
 pub record Refusals (sheet : Sheet) (n : Nutrient) (s : Site) (mode : Mode) (r : ℕ) : Type 0 where
   pub judged-first : (areaGiven (judged s) .0 ≡ granted → ⊥) → AllGive sheet n s mode r (areaGiven (judged s) .0) 0 0
   pub no-sheet : areaGiven (judged s) .0 ≡ granted → isThere sheet n ≡ false → AllGive sheet n s mode r (numberOf NoPublishedSheet) 0 0
@@ -113,7 +114,7 @@ pub record Refusals (sheet : Sheet) (n : Nutrient) (s : Site) (mode : Mode) (r :
 abbrev pub RefusedInOrder : Type 0
 RefusedInOrder = (sheet : Sheet) (n : Nutrient) (s : Site) (mode : Mode) (r : ℕ) → Refusals sheet n s mode r
 
--- Demand 2, from volume to credit: "Loads, credits and design volumes equal those of the EPA document by its tables and equations."
+-- Demand 2, from volume to credit: the load, the credit and the removed load are those of document 001's tables and equations.
 abbrev pub CreditIsByTheTables : Type 0
 CreditIsByTheTables =
     (sheet : Sheet) (n : Nutrient) (s : Site) (mode : Mode) (r v : ℕ)
@@ -135,7 +136,7 @@ SizeIsByTheTables =
     × (Sized sheet n s mode r target .volume ≡ volumeOf (partsOf s) (Sized sheet n s mode r target .depth))
     × (Sized sheet n s mode r target .removed ≡ removedOf (Sized sheet n s mode r target .load) (Sized sheet n s mode r target .percent))
 
--- Demand 3: "Among granted answers, with site, rate and mode kept, more storage never lowers the percent", nor the removed load.
+-- Demand 3: among granted answers with the same site, rate and mode, more storage never lowers the percent, nor the removed load.
 abbrev pub MoreStorageNeverLess : Type 0
 MoreStorageNeverLess =
     (sheet : Sheet) (n : Nutrient) (s : Site) (mode : Mode) (r v w : ℕ)
@@ -145,7 +146,7 @@ MoreStorageNeverLess =
     → (Credited sheet n s mode r v .percent ≤ Credited sheet n s mode r w .percent)
     × (Credited sheet n s mode r v .removed ≤ Credited sheet n s mode r w .removed)
 
--- "A higher target never gets a smaller volume."
+-- A higher target never gets a smaller volume.
 abbrev pub HigherTargetNeverSmaller : Type 0
 HigherTargetNeverSmaller =
     (sheet : Sheet) (n : Nutrient) (s : Site) (mode : Mode) (r t u : ℕ)
@@ -154,7 +155,7 @@ HigherTargetNeverSmaller =
     → Sized sheet n s mode r u .answer ≡ granted
     → Sized sheet n s mode r t .volume ≤ Sized sheet n s mode r u .volume
 
--- "The volume given is credited with at least its target, and every smaller volume with less."
+-- The volume that is given is credited with at least its target, and every smaller volume with less.
 abbrev pub SizedIsLeast : Type 0
 SizedIsLeast =
     (sheet : Sheet) (n : Nutrient) (s : Site) (mode : Mode) (r target : ℕ)
@@ -165,7 +166,7 @@ SizedIsLeast =
     → v < Sized sheet n s mode r target .volume
     → (Credited sheet n s mode r v .answer ≡ granted) × (Credited sheet n s mode r v .percent < target))
 
--- "A target of 0 to 100 percent is refused as unreachable exactly when no volume within the limit is credited with it." That all else
+-- A target of 0 to 100 percent is refused as unreachable exactly when no volume within the limit is credited with it. That all else
 -- is accepted says that the volume 0 is credited; then so is every volume within the limit.
 abbrev pub UnreachableExactly : Type 0
 UnreachableExactly =
@@ -176,7 +177,7 @@ UnreachableExactly =
     × ((Sized sheet n s mode r target .answer ≡ numberOf TargetUnreachable)
     ↔ ((v : ℕ) → v ≤ largest → Credited sheet n s mode r v .percent < target))
 
--- "Where no percent of the sheet falls as its rate rises, a faster soil never lowers the credit."
+-- Where no percent of the sheet falls as its rate rises, a faster soil never lowers the credit.
 abbrev pub FasterSoilNeverLess : Type 0
 FasterSoilNeverLess =
     (sheet : Sheet) (n : Nutrient) (s : Site) (mode : Mode) (r q v : ℕ)
@@ -202,7 +203,7 @@ SizingAgrees =
     → Sized sheet n s mode r target .answer ≡ granted
     → Credited sheet n s mode r (Sized sheet n s mode r target .volume) ≡ Sized sheet n s mode r target
 
--- "What stands in the record past its count changes no answer."
+-- What stands in the record past its count changes no answer.
 abbrev pub PastCountUnread : Type 0
 PastCountUnread =
     (sheet : Sheet) (wanted : Wanted) (n : Nutrient) (s t : Site) (mode : Mode) (r : ℕ)

@@ -1,4 +1,4 @@
-// 01, "Curve sheets": crediting and sizing, on a lent sheet and on a published practice.
+// Rules, "Curve sheets": crediting and sizing, on a lent sheet and on a published practice.
 ghost use mathlib.Core.Path.{_≡_};
 ghost use mathlib.Core.Bool.{false};
 ghost use Prim.Native.Nat.{_≤_};

@@ -1,5 +1,5 @@
--- The paper's sentences hold: the curve of a rate at printed depths, from the origin, between depths and beyond them, and the line between
--- the curves of two rates.
+-- The sentences of Rules, "Curve sheets", hold: the curve of a rate at printed depths, from the origin, between depths and beyond
+-- them, and the line between the curves of two rates.
 -- Assumes nothing.
 use Prim.Native.Nat.{ℕ, suc, _+_, _-_, _*_, _/_, _≤_, _<_}
 use mathlib.Core.List.{List}

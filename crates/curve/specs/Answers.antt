@@ -1,4 +1,4 @@
--- 01, "The numbers given back", of a sheet: a call for a percent tries 5, 6, 7, then 9; one for the least depth of a target 5, 6, 7, 9, 10.
+-- Rules, "The numbers given back", of a sheet: a call for a percent tries 5, 6, 7, 9, one for the least depth of a target 5, 6, 7, 9, 10.
 -- Assumes nothing.
 use Prim.Native.Nat.{ℕ}
 use mathlib.Core.Bool.{cond}
@@ -68,13 +68,13 @@ reachOf ds rs ps mode r target =
     ((leb target mostPercent, reach.TooHigh) ∷ (leb target (percentAt ds ps c highestDepth), reach.Short) ∷ []))
     (admissionOf ds rs ps mode r)
 
--- the paper's number, percent, list and place
+-- the rules' number, percent, list and place
 abbrev pub given : PercentAnswer → ℕ × ℕ × ℕ × ℕ
 given (percent.Granted p) = (granted, p .0, 0, 0)
 given (percent.BadSheet list place) = (numberOf UnfitSheet, 0, list, place)
 given (percent.Refused r) = (numberOf r, 0, 0, 0)
 
--- the paper's number, depth, percent, list and place
+-- the rules' number, depth, percent, list and place
 abbrev pub reachGiven : Reached → ℕ × ℕ × ℕ × ℕ × ℕ
 reachGiven (reach.Found d p) = (granted, d .0, p .0, 0, 0)
 reachGiven reach.TooHigh = (numberOf AmountOutOfRange, 0, 0, 0, 0)

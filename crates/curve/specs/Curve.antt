@@ -1,4 +1,4 @@
--- 01, "Curve sheets": the curve of a rate, the two modes, and the percent, rounded down once at the end.
+-- Rules, "Curve sheets": the curve of a rate, the two modes, and the percent, rounded down once at the end.
 -- A sheet is its depths ds, its rates rs, and its percents ps, rate by rate.
 -- Assumes nothing.
 use Prim.Native.Nat.{ℕ, _+_, _-_, _*_, _/_, min}

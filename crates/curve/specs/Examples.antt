@@ -1,4 +1,4 @@
--- 01, "Numbers to hold on to": what is given back on sheet T. The starred numbers stand in crates/credit/specs/Numbers.antt.
+-- Rules, "Numbers to hold on to": what is given back on sheet T. The starred numbers stand in crates/credit/specs/Numbers.antt.
 -- Assumes nothing.
 use Prim.Native.Nat.{ℕ}
 use mathlib.Core.Path.{_≡_, refl}

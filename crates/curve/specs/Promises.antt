@@ -1,5 +1,5 @@
--- What is promised of the percents of every accepted sheet, in both modes, at every site rate that is granted and at every depth; and
--- what is given back where the sheet or the rate is refused.
+-- Rules, "Curve sheets": what is promised of the percents of every accepted sheet, in both modes, at every site rate that is granted
+-- and at every depth; and what is given back where the sheet or the rate is refused.
 -- Assumes nothing.
 use Prim.Native.Nat.{ℕ, _+_, _-_, _*_, _/_, _≤_, _<_}
 use mathlib.Core.List.{List}
@@ -117,7 +117,7 @@ NeverFallsWithRate =
     (ds rs ps : List ℕ) → FasterIsNoLess ds rs ps → (mode : Mode) (r q d : ℕ) → Usable ds rs ps r → Usable ds rs ps q → r ≤ q
     → percentOf ds rs ps mode r d ≤ percentOf ds rs ps mode q d
 
--- what 01 says of the depth of a target: it is a grid depth whose percent is at least the target, and no lower depth has such a percent
+-- what the rules say of a target's depth: it is a grid depth whose percent is at least the target, and no lower depth has such a percent
 pub record IsLeast (percent : ℕ → ℕ) (target d : ℕ) : Type 0 where
   pub on-grid : d ≤ highestDepth
   pub reaches : target ≤ percent d

@@ -1,4 +1,4 @@
-// 01, "Curve sheets": the percent of a sheet at a site rate and a depth.
+// Rules, "Curve sheets": the percent of a sheet at a site rate and a depth.
 ghost use Prim.Native.Nat.{_≤_, _<_};
 ghost use mathlib.Core.Path.{_≡_};
 ghost use lib.ListN.{length, getD};

@@ -1,4 +1,4 @@
--- 01, "Job and answer text": then 1 or more lines `area=USE,COVER,SOIL,AREA`, a line's form before its adding.
+-- Rules, "Job and answer text": then 1 or more lines `area=USE,COVER,SOIL,AREA`, a line's form before its adding.
 -- Assumes nothing.
 use Prim.Native.Nat.{ℕ, _+_}
 use mathlib.Core.Bool.{cond, _&&_}

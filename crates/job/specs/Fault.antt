@@ -1,4 +1,4 @@
--- 01, "The numbers given back": refusal 1 also returns the offending line as that part of the caller's own text without its LF.
+-- Rules, "The numbers given back": refusal 1 also returns the offending line as that part of the caller's own text without its LF.
 -- Assumes nothing.
 use Prim.Native.Nat.{ℕ, zero, suc}
 use mathlib.Core.Bool.{cond}

@@ -1,4 +1,4 @@
--- 01, "Job and answer text": the first six lines, practice, nutrient, mode, rate, task and amount, in this order.
+-- Rules, "Job and answer text": the first six lines, practice, nutrient, mode, rate, task and amount, in this order.
 -- Assumes nothing.
 use Prim.Native.Nat.{ℕ}
 use mathlib.Core.List.{List}

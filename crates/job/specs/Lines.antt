@@ -1,4 +1,4 @@
--- 01, "Job and answer text": lines `key=value`, each ended by LF.
+-- Rules, "Job and answer text": lines `key=value`, each ended by LF.
 -- Assumes nothing.
 use Prim.Native.Nat.{ℕ}
 use mathlib.Core.Bool.{cond}

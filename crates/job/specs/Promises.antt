@@ -1,4 +1,5 @@
--- 01, "Job and answer text" and "The numbers given back": what is promised of a reading, as statements that proofs/Promises.antt proves.
+-- Rules, "Job and answer text" and "The numbers given back": what is promised of a reading, as statements that proofs/Promises.antt
+-- proves.
 -- Assumes nothing.
 use Prim.Native.Nat.{ℕ, suc, _≤_, _<_}
 use mathlib.Core.List.{List, []}

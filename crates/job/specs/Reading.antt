@@ -1,4 +1,4 @@
--- 01, "Job and answer text" and "The numbers given back": a job text read, or refused 1, 2, 3 or 14 with its line.
+-- Rules, "Job and answer text" and "The numbers given back": a job text read, or refused 1, 2, 3 or 14 with its line.
 -- Assumes nothing.
 use Prim.Native.Nat.{ℕ, _+_}
 use mathlib.Core.Bool.{cond}
@@ -34,7 +34,7 @@ behindHead (Fine job) lines = areasFrom job (drop headLines lines) (headLines + 
 unfoldable pub readingOf : List ℕ → Reading
 readingOf s = cond (ltb mostBytes (length s)) (refusedAt 0 MalformedText) (behindHead (headOf (linesOf s)) (linesOf s))
 
--- the paper's number and line of a reading: a refusal returns its number and its line, K
+-- the rules' number and line of a reading: a refusal returns its number and its line, K
 abbrev pub given : JobAnswer → ℕ × ℕ
 given (Granted job) = (granted, 0)
 given (Refused why k) = (numberOf why, k)

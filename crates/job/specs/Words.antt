@@ -1,4 +1,5 @@
--- 01, "Job and answer text": the words of a job. A word's place in its list, counted from 0, is the practice number, or the case's place among the cases.
+-- Rules, "Job and answer text": the words of a job. A word's place in its list, counted from 0, is the practice number, or the case's
+-- place among the cases.
 -- Assumes nothing.
 use Prim.Native.Nat.{ℕ}
 use mathlib.Core.List.{List, [], _∷_}

@@ -1,4 +1,4 @@
-// 01, "Job and answer text": the job text read, and the offending part of one that is refused 1.
+// Rules, "Job and answer text": the job text read, and the offending part of one that is refused 1.
 ghost use mathlib.Core.Path.{_≡_};
 ghost use Rattle.text.specs.Part.{Part};
 ghost use Rattle.job.specs.Areas.{refusedAt};

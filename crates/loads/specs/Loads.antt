@@ -1,4 +1,4 @@
--- 01, "Site and load" and equation 3-2: the load of a site, and the removed load.
+-- Rules, "Site and load" and "Curve sheets": the load of a site, and the removed load by equation 3-2.
 -- Assumes nothing.
 use Prim.Native.Nat.{ℕ, _*_, _/_}
 use mathlib.Core.List.{List, [], _∷_}
@@ -48,7 +48,7 @@ removedAnswer load percent =
     inTurn Refused (Granted (record { 0 = removedOf load percent }))
     ((leb percent mostPercent, AmountOutOfRange) ∷ (leb load largest, PastLargest) ∷ [])
 
--- the paper's number and value: a refusal's value is 0
+-- the rules' number and value: a refusal's value is 0
 abbrev pub given : LoadAnswer → ℕ × ℕ
 given (Granted load) = (granted, load .0)
 given (Refused why) = (numberOf why, 0)

@@ -1,4 +1,4 @@
--- 01, "Site and load": what is promised of loads, as statements that proofs/Promises.antt proves.
+-- Rules, "Site and load": what is promised of loads, as statements that proofs/Promises.antt proves.
 -- Assumes nothing.
 use Prim.Native.Nat.{ℕ, _≤_}
 use mathlib.Core.Path.{_≡_}

@@ -1,4 +1,4 @@
--- 01, "Site and load": the export rates of Tables 3-1 and 3-2, hundredths of a pound per acre and year, as one flat table of 16 for
+-- Rules, "Site and load": the export rates of Tables 3-1 and 3-2, hundredths of a pound per acre and year, as one flat table of 16 for
 -- each nutrient.
 -- Assumes nothing.
 use Prim.Native.Nat.{ℕ, _+_}

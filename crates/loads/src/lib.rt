@@ -1,4 +1,4 @@
-// 01, "Site and load": the export rates of Tables 3-1 and 3-2, the load of a site, and the removed load.
+// Rules, "Site and load" and "Curve sheets": the export rates of Tables 3-1 and 3-2, the load of a site, and the removed load.
 ghost use mathlib.Core.Path.{_≡_};
 ghost use Prim.Native.Nat.{_*_, _≤_};
 ghost use lib.ListN.{getD};

@@ -1,4 +1,4 @@
--- 01, "Probe readings": what a reader is to believe of a reading's rate beyond its definition.
+-- Rules, "Probe readings": what a reader is to believe of a reading's rate beyond its definition.
 -- Assumes nothing.
 use mathlib.Core.Path.{_≡_}
 use mathlib.Core.Bool.{Bool, false}

@@ -1,4 +1,4 @@
--- 01, "Probe readings": the exact value of a reading becomes a rate in hundredths of an inch per hour.
+-- Rules, "Probe readings": the exact value of a reading becomes a rate in hundredths of an inch per hour.
 -- Assumes nothing.
 use Prim.Native.Nat.{ℕ, _*_, _/_}
 use mathlib.Core.Bool.{cond, _&&_}
@@ -33,7 +33,7 @@ abbrev pub rateOf : Reading → RateAnswer
 rateOf (InchesPerHour x) = answerIn 100 1 x
 rateOf (MillimetresPerHour x) = answerIn 1_000 254 x
 
--- the paper's number and value: a refusal's value is 0
+-- the rules' number and value: a refusal's value is 0
 abbrev pub given : RateAnswer → ℕ × ℕ
 given (Granted r) = (granted, r .0)
 given (Refused r) = (numberOf r, 0)

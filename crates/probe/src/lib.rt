@@ -1,4 +1,4 @@
-// 01, "Probe readings": the exact value of a probe's float becomes a rate, with whole numbers alone.
+// Rules, "Probe readings": the exact value of a probe's float becomes a rate, with whole numbers alone.
 ghost use mathlib.Core.Path.{_≡_};
 ghost use Prim.Native.Nat.{_<_};
 ghost use lib.Ieee.{binary32, ofBits};

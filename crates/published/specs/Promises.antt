@@ -1,4 +1,4 @@
--- What is promised of the published sheets.
+-- Rules, "Practices covered": what is promised of the published sheets.
 -- Assumes nothing.
 use Prim.Native.Nat.{ℕ, _-_, _≤_, _<_}
 use mathlib.Core.Bool.{true, false}
@@ -24,7 +24,8 @@ EverySheetPasses =
 abbrev pub EveryPracticeHasOne : Type 0
 EveryPracticeHasOne = (practice : ℕ) (nutrient : Nutrient) → practice ≤ lastPractice → isPublished practice nutrient ≡ true
 
--- In no published sheet does a percent fall as its rate rises: what demand 3 asks of a sheet for a faster soil never to lower the credit.
+-- In no published sheet does a percent fall as its rate rises: with this a faster soil never lowers the credit, which is asked by
+-- Rules, "The three demands", the third.
 abbrev pub NoneFallsWithRate : Type 0
 NoneFallsWithRate =
     (practice : ℕ) (nutrient : Nutrient) → FasterIsNoLess depths (ratesOf practice nutrient) (percentsOf practice nutrient)

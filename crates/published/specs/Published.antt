@@ -1,4 +1,4 @@
--- 01, "Practices covered": the published sheet of a practice for a nutrient, its percents, and the one list of all sheets.
+-- Rules, "Practices covered": the published sheet of a practice for a nutrient, its percents, and the one list of all sheets.
 -- Assumes nothing.
 use Prim.Native.Nat.{ℕ}
 use mathlib.Core.Bool.{Bool}
@@ -56,7 +56,7 @@ inARow ((rates, percents) ∷ rest) = rates ++ percents ++ inARow rest
 unfoldable pub allSheets : List ℕ
 allSheets = depths ++ inARow (sheets P ++ sheets N)
 
--- the paper's number, and the place: zeros for a refusal
+-- the rules' number, and the place: zeros for a refusal
 abbrev pub given : Place → ℕ × ℕ × ℕ × ℕ
 given (At rates percents end) = (granted, rates, percents, end)
 given (Refused why) = (numberOf why, 0, 0, 0)

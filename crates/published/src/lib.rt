@@ -1,4 +1,4 @@
-// 01, "Practices covered": the published sheets of the nine practices.
+// Rules, "Practices covered": the published sheets of the nine practices.
 mod tables;
 
 ghost use Prim.Native.Nat.{_≤_, _<_};

@@ -1,4 +1,4 @@
--- 01, "The numbers given back": the number of each refusal. 0 is kept for a granted answer.
+-- Rules, "The numbers given back": the number of each refusal. 0 is kept for a granted answer.
 -- Assumes nothing.
 use Prim.Native.Nat.{ℕ}
 use Rattle.refusal.specs.declared.Refusal.{Refusal}

@@ -1,4 +1,4 @@
-// 01, "The numbers given back": one case for each number, named for what it means.
+// Rules, "The numbers given back": one case for each number, named for what it means.
 ghost use mathlib.Core.Path.{_≡_};
 ghost use Rattle.refusal.specs.Refusal.{numberOf};
 
@@ -35,7 +35,7 @@ pub enum Refusal {
     PastLargest,
 }
 
-// The number that 01 gives a refusal.
+// The number that the rules give a refusal.
 pub fn number(r: Refusal) -> u64
     ensures { λ n. ⌜ n ≡ numberOf r ⌝ }
 {

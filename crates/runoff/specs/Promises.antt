@@ -1,4 +1,4 @@
--- 01, "Pervious runoff": what is promised of runoff, as statements that proofs/Promises.antt proves.
+-- Rules, "Pervious runoff": what is promised of runoff, as statements that proofs/Promises.antt proves.
 -- Assumes nothing.
 use Prim.Native.Nat.{ℕ, suc, _-_, _*_, _%_, _≤_, _<_}
 use mathlib.Core.List.{List, [], _∷_, map}
@@ -18,7 +18,7 @@ use Rattle.runoff.specs.Runoff.{rows, rain, printed, runoffOf, runoffShe
 abbrev pub RowsHold : Type 0
 RowsHold = (c : Column) → map (λ row. runoffOf c (rain row)) rows ≡ map (λ row. printed row (columnPlace c)) rows
 
--- "Below rain 10 runoff is 0."
+-- Below rain 10 runoff is 0.
 abbrev pub NoneBelowRows : Type 0
 NoneBelowRows = (c : Column) (d : ℕ) → d < 10 → runoffOf c d ≡ 0
 
@@ -30,11 +30,11 @@ rowAt k = getD rows k []
 abbrev pub gapAt : ℕ → ℕ
 gapAt k = rain (rowAt (suc k)) - rain (rowAt k)
 
--- "Every row gap divides 300."
+-- Every row gap divides 300.
 abbrev pub GapsDivide : Type 0
 GapsDivide = map (λ k. 300 % gapAt k) (0 ∷ 1 ∷ 2 ∷ 3 ∷ 4 ∷ 5 ∷ 6 ∷ 7 ∷ 8 ∷ []) ≡ replicate 9 0
 
--- "Between rows it is a straight line", and a whole number: the runoff times the gap is the line itself, with nothing rounded.
+-- Between rows it is a straight line, and a whole number: the runoff times the gap is the line itself, with nothing rounded.
 abbrev pub StraightBetween : Type 0
 StraightBetween =
     (c : Column) (k d : ℕ)
@@ -57,6 +57,6 @@ RunoffGrantedExactly =
     → (d .0 ≤ highestDepth → given (runoffAnswer c d) ≡ (granted, runoffOf c (d .0)))
     × (highestDepth < d .0 → given (runoffAnswer c d) ≡ (numberOf AmountOutOfRange, 0))
 
--- "A at 55 is 150; CD at 110 is 6600; D at 200 is 32400."
+-- Rules, "Numbers to hold on to": A at 55 is 150, CD at 110 is 6600, D at 200 is 32400.
 abbrev pub RunoffNumbers : Type 0
 RunoffNumbers = (runoffOf A 55 ∷ runoffOf CD 110 ∷ runoffOf D 200 ∷ []) ≡ (150 ∷ 6600 ∷ 32400 ∷ [])

@@ -1,4 +1,4 @@
--- 01, "Pervious runoff": Table 3-4, straight between its rows, in thirty-thousandths of an inch.
+-- Rules, "Pervious runoff": Table 3-4, straight between its rows, in thirty-thousandths of an inch.
 -- Assumes nothing.
 use Prim.Native.Nat.{ℕ, suc, _+_, _-_, _*_, _/_, _%_}
 use mathlib.Core.Bool.{cond}
@@ -81,7 +81,7 @@ abbrev pub runoffAnswer : Column → Depth → RunoffAnswer
 runoffAnswer c d =
     cond (leb (d .0) highestDepth) (Granted (record { 0 = runoffOf c (d .0) })) (Refused AmountOutOfRange)
 
--- the paper's number and value
+-- the rules' number and value
 abbrev pub given : RunoffAnswer → ℕ × ℕ
 given (Granted r) = (granted, r .0)
 given (Refused r) = (numberOf r, 0)

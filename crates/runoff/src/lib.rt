@@ -1,4 +1,4 @@
-// 01, "Pervious runoff": Table 3-4, and the sheet of its straight lines at every grid depth.
+// Rules, "Pervious runoff": Table 3-4, and the sheet of its straight lines at every grid depth.
 mod entries;
 
 pub use entries::sheet;
@@ -10,7 +10,7 @@ use refusal::Refusal;
 use units::Column;
 use units::Depth;
 
-// Table 3-4 as the paper prints it, hundredths of an inch: rain, then the runoff on A, B, C, CD, D.
+// Table 3-4 as document 001 prints it, hundredths of an inch: rain, then the runoff on A, B, C, CD, D.
 const ROWS: [[u64; 6]; 10] = [
     [10, 0, 0, 0, 0, 0],
     [20, 0, 0, 1, 2, 2],

@@ -1,4 +1,4 @@
--- 01, "The numbers given back": what each call of the C interface gives back, from the paper's numbers and values of the library's answers.
+-- Rules, "The numbers given back": what each call of the C interface gives back, from the numbers and values of the library's answers.
 -- Assumes nothing.
 use Prim.Native.Nat.{ℕ, _-_}
 use mathlib.Core.Bool.{Bool, true, false}

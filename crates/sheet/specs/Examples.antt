@@ -1,4 +1,4 @@
--- 01, "Numbers to hold on to": sheet T, and T with 65000 read as 35000.
+-- Rules, "Numbers to hold on to": sheet T, and T with 65000 read as 35000.
 -- Assumes nothing.
 use Prim.Native.Nat.{ℕ}
 use mathlib.Core.List.{List, [], _∷_}

@@ -1,4 +1,4 @@
--- What is promised of the verdict on every sheet that is lent.
+-- Rules, "Curve sheets": what is promised of the verdict on every sheet that is lent.
 -- Assumes nothing.
 use Prim.Native.Nat.{ℕ, _≤_, _<_}
 use mathlib.Core.Bool.{true, false}

@@ -1,4 +1,4 @@
--- 01, "Curve sheets": what a sheet must keep, said of every depth, rate and percent.
+-- Rules, "Curve sheets": what a sheet must keep, said of every depth, rate and percent.
 -- Assumes nothing.
 use Prim.Native.Nat.{ℕ, _+_, _*_, _≤_, _<_}
 use mathlib.Core.Bool.{true}

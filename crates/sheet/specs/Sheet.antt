@@ -1,4 +1,4 @@
--- 01, "Curve sheets": the rules of a sheet, and the verdict on one that is lent.
+-- Rules, "Curve sheets": the rules of a sheet, and the verdict on one that is lent.
 -- Assumes nothing.
 use Prim.Native.Nat.{ℕ, _+_, _-_, _*_, _%_}
 use mathlib.Core.Bool.{Bool, cond, _&&_}
@@ -64,7 +64,7 @@ verdictOf ds rs ps =
     (listJudged 3 (offendingPercent (length ds) ps) (length ps) Fine)))
     (Unfit 0 0)
 
--- the paper's number, list and place
+-- the rules' number, list and place
 abbrev pub given : Verdict → ℕ × ℕ × ℕ
 given Fine = (granted, 0, 0)
 given (Unfit list place) = (numberOf UnfitSheet, list, place)

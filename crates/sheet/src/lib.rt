@@ -1,4 +1,4 @@
-// 01, "Curve sheets": the test of a sheet, lent as its depths, its rates, and its percents rate by rate.
+// Rules, "Curve sheets": the test of a sheet, lent as its depths, its rates, and its percents rate by rate.
 ghost use Prim.Native.Nat.{_*_, _%_};
 ghost use mathlib.Core.Path.{_≡_};
 ghost use lib.Dec.{eqb};

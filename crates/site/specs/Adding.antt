@@ -1,4 +1,4 @@
--- 01, "Site and load" and "The numbers given back": adding a sub-area tries 2, 14, 3 and hands the site back.
+-- Rules, "Site and load" and "The numbers given back": adding a sub-area tries 2, 14, 3 and hands the site back.
 -- Assumes nothing.
 use Prim.Native.Nat.{ℕ, _+_}
 use mathlib.Core.List.{[], _∷_}
@@ -42,6 +42,6 @@ addedTo s total p = settled s p (addAnswer (s .count) total p)
 unfoldable pub added : Site → SubArea → Added
 added s p = afterJudging (kept s) (λ total. addedTo s total p) (judged s)
 
--- the paper's number and value beside the site
+-- the rules' number and value beside the site
 abbrev pub givenBack : Added → (ℕ × ℕ) × Site
 givenBack a = (given (a .answer), a .site)

@@ -1,4 +1,4 @@
--- 01, "Site and load" and "The numbers given back": a site record handed to any call is judged before all else.
+-- Rules, "Site and load" and "The numbers given back": a site record handed to any call is judged before all else.
 -- Assumes nothing.
 use Prim.Native.Nat.{ℕ, _+_}
 use mathlib.Core.Bool.{Bool, _&&_}
@@ -45,7 +45,7 @@ module _ {A : Type 0} where
 unfoldable pub impervious : Site → AreaAnswer
 impervious s = afterJudging Refused (λ total. Granted (record { 0 = imperviousArea (partsOf s) })) (judged s)
 
--- the paper's number and value: a refusal's value is 0
+-- the rules' number and value: a refusal's value is 0
 abbrev pub given : AreaAnswer → ℕ × ℕ
 given (Granted area) = (granted, area .0)
 given (Refused why) = (numberOf why, 0)

@@ -1,4 +1,4 @@
--- 01, "Site and load": what a site holds, and its areas.
+-- Rules, "Site and load": what a site holds, and its areas.
 -- Assumes nothing.
 use Prim.Native.Nat.{ℕ}
 use mathlib.Core.List.{List}

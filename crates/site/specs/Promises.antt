@@ -1,4 +1,4 @@
--- 01, "Site and load": what is promised of a site record, as statements that proofs/Promises.antt proves.
+-- Rules, "Site and load": what is promised of a site record, as statements that proofs/Promises.antt proves.
 -- Assumes nothing.
 use Prim.Native.Nat.{ℕ, _+_, _≤_, _<_}
 use mathlib.Core.Path.{_≡_}
@@ -77,7 +77,7 @@ AddGrantedExactly =
     → (givenBack (added s p) .0 ≡ (granted, a))
     ↔ ((fits p ≡ true) × (s .count < mostParts) × (total + areaOf p ≡ a) × (a ≤ mostArea))
 
--- "Adding tries 2, 14, 3": the numbers and zeros given back by an add to a record that is judged fine.
+-- Adding tries 2, 14, 3: the numbers and zeros given back by an add to a record that is judged fine.
 pub record AddTries (s : Site) (total : ℕ) (p : SubArea) (answer : ℕ × ℕ) : Type 0 where
   pub unfit : fits p ≡ false → answer ≡ (numberOf UnfitSubArea, 0)
   pub full : fits p ≡ true → s .count ≡ mostParts → answer ≡ (numberOf SiteFull, 0)
@@ -102,7 +102,7 @@ GrantedHolds =
     → givenBack (added s p) .0 ≡ (granted, a)
     → (partsOf (givenBack (added s p) .1) ≡ partsOf s ++ (p ∷ [])) × (given (judged (givenBack (added s p) .1)) ≡ (granted, a))
 
--- "An add writes only the place at the count": each other place of the record that a granted add hands back holds what it held,
+-- An add writes only the place at the count: each other place of the record that a granted add hands back holds what it held,
 -- and the count is one more.
 abbrev pub OnlyThePlaceAtTheCount : Type 0
 OnlyThePlaceAtTheCount =

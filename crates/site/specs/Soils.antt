@@ -1,4 +1,4 @@
--- 01, "Site and load": which soil suits which cover, and how each table reads a soil.
+-- Rules, "Site and load": which soil suits which cover, and how each table reads a soil.
 -- Assumes nothing.
 use mathlib.Core.Bool.{Bool, true, false, not}
 use Rattle.units.specs.declared.Column.{Column}

@@ -1,4 +1,4 @@
-// 01, "Site and load": sub-areas, the site record that holds them, the judging of a record, and adding to it.
+// Rules, "Site and load": sub-areas, the site record that holds them, the judging of a record, and adding to it.
 ghost use mathlib.Core.Path.{_≡_};
 ghost use Rattle.site.specs.Soils.{named, suits, columnOf, loadColumn, runoffColumn};
 ghost use Rattle.site.specs.Parts.{partsOf, imperviousOf, imperviousArea, emptySite};

@@ -1,4 +1,4 @@
--- 01, "Job and answer text": numbers have 1 to 14 digits and no leading zero except 0 itself.
+-- Rules, "Job and answer text": numbers have 1 to 14 digits and no leading zero except 0 itself.
 -- Assumes nothing.
 use Prim.Native.Nat.{ℕ, zero, suc, _+_, _-_, _*_, _/_, _%_}
 use Prim.Native.Char.{code}

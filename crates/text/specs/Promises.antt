@@ -1,4 +1,4 @@
--- 01, "Job and answer text": what is promised of numbers as text, as statements that proofs/Decimal.antt proves.
+-- Rules, "Job and answer text": what is promised of numbers as text, as statements that proofs/Decimal.antt proves.
 -- Assumes nothing.
 use Prim.Native.Nat.{ℕ, _^_, _<_}
 use mathlib.Core.Path.{_≡_}

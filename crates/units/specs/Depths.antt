@@ -1,4 +1,4 @@
--- 01, "Units": Depth itself carries its lowest and highest grid value; a depth above 200 is refused 9.
+-- Rules, "Units, all whole numbers": a depth is on the grid, whose lowest and highest are the type's own; one above 200 is refused 9.
 -- Assumes nothing.
 use Prim.Native.Nat.{ℕ}
 use mathlib.Core.Bool.{cond}
@@ -13,7 +13,7 @@ use Rattle.units.specs.Limits.{highestDepth}
 abbrev pub onGrid : ℕ → DepthAnswer
 onGrid h = cond (leb h highestDepth) (Granted (record { 0 = h })) (Refused AmountOutOfRange)
 
--- the paper's number and value: a refusal's value is 0
+-- the rules' number and value: a refusal's value is 0
 abbrev pub given : DepthAnswer → ℕ × ℕ
 given (Granted d) = (granted, d .0)
 given (Refused r) = (numberOf r, 0)

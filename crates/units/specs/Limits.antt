@@ -1,4 +1,4 @@
--- 01, "Units, all whole numbers": each limit by its name.
+-- Rules, "Units, all whole numbers": each limit by its name.
 -- Assumes nothing.
 use Prim.Native.Nat.{ℕ, _+_, _^_}
 

@@ -1,4 +1,4 @@
--- 01, "Units": what is promised of a depth.
+-- Rules, "Units, all whole numbers": what is promised of a depth.
 -- Assumes nothing.
 use Prim.Native.Nat.{ℕ, _≤_, _<_}
 use mathlib.Core.Path.{_≡_}
@@ -7,7 +7,7 @@ use Rattle.refusal.specs.Refusal.{numberOf, granted}
 use Rattle.units.specs.Limits.{highestDepth}
 use Rattle.units.specs.Depths.{onGrid, given}
 
--- Each number up to 200 is granted, as the depth that it is; "a call given a depth above 200 answers 9."
+-- Each number up to 200 is granted, as the depth that it is; a call that is given one above 200 answers 9.
 abbrev pub OnGridExactly : Type 0
 OnGridExactly =
     (h : ℕ)

@@ -111,7 +111,7 @@ module _ (xs : List Area) (v : ℕ) where
             let l = within-below (volumeFrom xs) (from-zero xs) (from-rises xs) v (low + width / 2) (omega arith) in
             record { least = c .least; most = omega arith; within = omega arith }
 
--- "The depth of a volume is the largest grid depth d with V(d) not above the volume."
+-- The depth of a volume is the largest grid depth d with V(d) not above the volume.
 module _ (ps : List SubArea) (v : ℕ) where
   pub depth-on-grid : depthOf ps v ≤ highestDepth
   unfolding depthOf

@@ -1,4 +1,4 @@
--- 01, "Volume of a depth" and "The numbers given back": what the calls answer.
+-- Rules, "Volume of a depth" and "The numbers given back": what the calls answer.
 -- Assumes nothing.
 use Prim.Native.Nat.{ℕ}
 use mathlib.Core.Bool.{Bool, cond}
@@ -60,7 +60,7 @@ gatheredAnswer s =
     (λ total. record { answer = area.Granted (record { 0 = total }); areas = record { of = areasOf (partsOf s) } })
     (judged s)
 
--- the paper's number and value: a refusal's value is 0
+-- the rules' number and value: a refusal's value is 0
 abbrev pub given : VolumeAnswer → ℕ × ℕ
 given (Granted v) = (granted, v .0)
 given (Refused why) = (numberOf why, 0)

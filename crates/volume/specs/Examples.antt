@@ -1,4 +1,4 @@
--- 01, "Numbers to hold on to": the sub-areas whose volumes are shown.
+-- Rules, "Numbers to hold on to": the sub-areas whose volumes are shown.
 -- Assumes nothing.
 use mathlib.Core.List.{List, [], _∷_}
 use Rattle.site.specs.declared.LandUse.the-variants.{Com}

@@ -1,4 +1,4 @@
--- 01, "Volume of a depth": what is promised of V and of the depth of a volume.
+-- Rules, "Volume of a depth": what is promised of V and of the depth of a volume.
 -- Assumes nothing.
 use Prim.Native.Nat.{ℕ, _≤_, _<_}
 use mathlib.Core.List.{List}
@@ -28,7 +28,7 @@ StartsAtZero = (ps : List SubArea) → volumeOf ps 0 ≡ 0
 abbrev pub NeverFalls : Type 0
 NeverFalls = (ps : List SubArea) (d e : ℕ) → d ≤ e → e ≤ highestDepth → volumeOf ps d ≤ volumeOf ps e
 
--- "V rises strictly where there is impervious area."
+-- V rises strictly where there is impervious area.
 abbrev pub RisesStrictly : Type 0
 RisesStrictly = (ps : List SubArea) (d e : ℕ) → 0 < imperviousArea ps → d < e → e ≤ highestDepth → volumeOf ps d < volumeOf ps e
 
@@ -36,7 +36,7 @@ RisesStrictly = (ps : List SubArea) (d e : ℕ) → 0 < imperviousArea ps → d 
 abbrev pub Fits : Type 0
 Fits = (ps : List SubArea) → totalArea ps ≤ mostArea → volumeOf ps highestDepth ≤ largest
 
--- "The depth of a volume is the largest grid depth d with V(d) not above the volume."
+-- The depth of a volume is the largest grid depth d with V(d) not above the volume.
 abbrev pub LargestDepth : Type 0
 LargestDepth =
     (ps : List SubArea) (v : ℕ)

@@ -1,4 +1,4 @@
--- 01, "Volume of a depth".
+-- Rules, "Volume of a depth": V at a depth, and the depth of a volume.
 -- Assumes nothing.
 use Prim.Native.Nat.{ℕ, _+_, _-_, _*_}
 use mathlib.Core.List.{List}

@@ -1,4 +1,4 @@
-// 01, "Volume of a depth": V at a depth, and the depth of a volume.
+// Rules, "Volume of a depth": V at a depth, and the depth of a volume.
 ghost use mathlib.Core.Path.{_≡_};
 ghost use lib.ListN.{length};
 ghost use Prim.Native.Nat.{_+_, _*_, _≤_};
