@@ -1,20 +1,41 @@
 /* Sagecruet's C interface: stormwater loads, credits and design volumes.
  *
- * Link target/staticlib/libsagecruet.a, which `rt staticlib sagecruet` writes for x86-64 Linux.
+ * Link libsagecruet.a, which is for x86-64 Linux: `make` in the repository's folder builds it, `make install` installs
+ * it. docs/C.md leads from there to a running program, and examples/c/example.c uses every function.
  *
  * Every function is proved to give its answer for every input. It keeps no state, takes no memory of its own and
- * changes nothing but the bytes of an answer text. What the proof leaves to the caller is what a C pointer cannot say:
- * each list is handed over as a pointer and a count, the pointer is not null (even where the count is 0), is aligned
- * for its type and has that many elements behind it, and no text to be written overlaps another list of the same call.
+ * changes nothing but the bytes of an answer text. What the proof leaves to the caller is what a C pointer cannot say.
+ * Each list is handed over as a pointer and a count:
  *
- * Units, all whole numbers: depth in hundredths of an inch (0 to 200), rate in hundredths of an inch per hour (0 to
- * 10,000), percent in thousandths of a percent (0 to 100,000), volume in hundred-thousandths of a cubic foot.
+ *   - the pointer is not null, even where the count is 0;
+ *   - it is aligned for its type;
+ *   - it has that many elements behind it, and no other thread writes them during the call;
+ *   - an answer text to be written overlaps no other list of the same call.
  *
- * Numbers given back: 0 granted; 1 the job text is malformed; 2 a sub-area out of range; 3 the total area is too large;
- * 4 no such practice; 5 the sheet breaks a rule; 6 the rate is out of range; 7 the rate is below the sheet's slowest;
- * 8 no impervious area; 9 an amount or a depth out of range; 10 the target is not reached; 11 a reading that is no
- * number from 0 up; 12 a reading over 10,000; 13 the answer buffer is too short; 14 more than 32 sub-areas; 15 a load
- * or a volume past 10^13.
+ * A job is a text of at most 4,096 bytes. These nine lines ask for the yearly nitrogen of a site of three sub-areas:
+ *
+ *     practice=basin
+ *     nutrient=N
+ *     mode=step
+ *     rate=0
+ *     task=load
+ *     amount=0
+ *     area=ind,imp,-,1013
+ *     area=com,per,C,185
+ *     area=for,per,C,89
+ *
+ * The order is fixed, each line ends with a line feed, the last one too, and there are 1 to 32 lines `area`. The
+ * repository's README.md, "A job and its answer", has the words that each line may say. The count of a job is that of
+ * its bytes, without the zero byte at the end of a C string.
+ *
+ * Units, all whole numbers:
+ *
+ *   area           hundredths of an acre                   1 to 1,000,000, and so the total of a site
+ *   depth          hundredths of an inch                   0 to 200
+ *   rate           hundredths of an inch per hour          0 to 10,000
+ *   volume         hundred-thousandths of a cubic foot     0 to 10^13
+ *   load, removed  ten-thousandths of a pound per year     0 to 10^13
+ *   percent        thousandths of a percent                0 to 100,000
  */
 #ifndef SAGECRUET_H
 #define SAGECRUET_H
@@ -27,15 +48,46 @@
 extern "C" {
 #endif
 
+/* The bytes that hold any answer text. */
+#define SAGECRUET_ROOM 147
+
+/* The bytes of the longest job text; a longer one is refused 1. */
+#define SAGECRUET_LONGEST_JOB 4096
+
+/* The most depths and the most rates of a sheet. */
+#define SAGECRUET_MOST_DEPTHS 16
+#define SAGECRUET_MOST_RATES 8
+
+/* The numbers given back, in an answer text as `answer=N` and in the structs below as `answer`. docs/REFUSALS.md says
+ * when each is given and what to do about it. 13 is told by the length 0 of an answer text. */
+enum sagecruet_number {
+    SAGECRUET_GRANTED = 0,             /* The job is granted. */
+    SAGECRUET_MALFORMED_TEXT = 1,      /* The job cannot be read. */
+    SAGECRUET_UNFIT_SUB_AREA = 2,      /* A sub-area does not fit. */
+    SAGECRUET_TOTAL_AREA_PASSED = 3,   /* The site is too large. */
+    SAGECRUET_NO_PUBLISHED_SHEET = 4,  /* There is no such practice. */
+    SAGECRUET_UNFIT_SHEET = 5,         /* The lent sheet breaks a rule. */
+    SAGECRUET_RATE_OUT_OF_RANGE = 6,   /* The rate is out of range. */
+    SAGECRUET_RATE_BELOW_SHEET = 7,    /* The soil is too slow for the practice. */
+    SAGECRUET_NO_IMPERVIOUS_AREA = 8,  /* The site has no impervious area. */
+    SAGECRUET_AMOUNT_OUT_OF_RANGE = 9, /* The amount is out of range for the task. */
+    SAGECRUET_TARGET_UNREACHABLE = 10, /* No size reaches the target. */
+    SAGECRUET_READING_NOT_A_RATE = 11, /* The reading is no rate. */
+    SAGECRUET_READING_TOO_FAST = 12,   /* The reading is too fast. */
+    SAGECRUET_BUFFER_TOO_SHORT = 13,   /* There is no room for the answer text. */
+    SAGECRUET_SITE_FULL = 14,          /* The site has more than 32 sub-areas. */
+    SAGECRUET_PAST_LARGEST = 15        /* A load or a volume is past the largest number. */
+};
+
 /* A part of a job text: the place of its first byte, and its length. */
 struct sagecruet_part {
     size_t from;
     size_t len;
 };
 
-/* What the test of a sheet says. `answer` is 0 or 5. With 5, `list` is 1 for the depths, 2 for the rates or 3 for the
- * percents, and `place` is the first offending index in that list, counted from 0; both are 0 where the lengths of the
- * lists do not fit together. With 0, both are 0. */
+/* What the test of a sheet says: SAGECRUET_GRANTED, or SAGECRUET_UNFIT_SHEET. With the second, `list` is 1 for the
+ * depths, 2 for the rates or 3 for the percents, and `place` is the first offending index in that list, counted from 0;
+ * both are 0 where the lengths of the lists do not fit together. With the first, both are 0. */
 struct sagecruet_verdict {
     uint64_t answer;
     uint64_t list;
@@ -52,7 +104,7 @@ struct sagecruet_value {
  *
  * The answer text is written at the start of `text`, with no zero byte after it, and its length is returned; no other
  * byte of `text` changes. Where `text_len` is less than the answer text needs (refusal 13), 0 is returned and `text`
- * keeps every byte. 147 bytes are room enough for any answer.
+ * keeps every byte. SAGECRUET_ROOM bytes are room enough for any answer.
  *
  * A granted job answers six lines, a refused one two:
  *
@@ -74,8 +126,8 @@ size_t sagecruet_answer_on(const uint8_t *job, size_t job_len,
                            uint8_t *text, size_t text_len);
 
 /* The offending line of a job text that is refused 1, without its line feed: the line as it stands in the text; an
- * empty part at the end where a line is missing; an empty part at the start where the text is over 4,096 bytes. A text
- * that is not refused 1 has an empty part at its end. */
+ * empty part at the end where a line is missing; an empty part at the start where the text is too long. A text that
+ * is not refused 1 has an empty part at its end. */
 struct sagecruet_part sagecruet_fault(const uint8_t *job, size_t job_len);
 
 /* Tests a sheet: 1 to 16 depths, strictly rising, from 1 to 200; 1 to 8 rates, strictly rising, from 1 to 10,000, or
@@ -92,8 +144,8 @@ struct sagecruet_value sagecruet_percent(const uint64_t *depths, size_t depths_l
                                          const uint64_t *percents, size_t percents_len,
                                          bool mix, uint64_t rate, uint64_t depth);
 
-/* The rate of a probe reading in millimetres per hour, or in inches per hour: its exact value in hundredths of an inch
- * per hour, rounded down. Refusals: 11, 12. */
+/* The rate of a probe reading, which is in millimetres per hour with `millimetres` true and in inches per hour with it
+ * false: its exact value in hundredths of an inch per hour, rounded down. Refusals: 11, 12. */
 struct sagecruet_value sagecruet_reading(bool millimetres, float reading);
 
 #ifdef __cplusplus

@@ -1,0 +1,110 @@
+/* Every function of Sagecruet's C interface at work. All numbers are whole, so they are printed exactly: what stands
+ * before the point by /, and what stands behind it by %. */
+#include <inttypes.h>
+#include <stdio.h>
+#include <stdlib.h>
+#include <string.h>
+
+#include <sagecruet.h>
+
+#define COUNT(list) (sizeof(list) / sizeof((list)[0]))
+
+/* A curve sheet of our own: three depths, two rates, and the percents of the first rate, then of the second. */
+static const uint64_t depths[] = {20, 60, 100};
+static const uint64_t rates[] = {25, 75};
+static uint64_t percents[] = {20000, 50000, 70000, 40000, 65000, 80000};
+#define SHEET depths, COUNT(depths), rates, COUNT(rates), percents, COUNT(percents)
+
+/* Prints a number that is counted in 1/10^places of a unit. */
+static void show(const char *name, uint64_t number, int places, const char *unit)
+{
+    uint64_t one = 1;
+    for (int i = 0; i < places; i++)
+        one *= 10;
+    printf("  %s: %" PRIu64 ".%0*" PRIu64 " %s\n", name, number / one, places, number % one, unit);
+}
+
+/* The number behind a key of an answer text. No key is the end of another. */
+static uint64_t number_of(const char *text, const char *key)
+{
+    const char *found = strstr(text, key);
+    return found ? strtoull(found + strlen(key), NULL, 10) : 0;
+}
+
+/* Works a job out, on the sheet above or on the published tables, and prints its answer with units. */
+static void answer(const char *job, bool on_sheet)
+{
+    const uint8_t *bytes = (const uint8_t *)job;
+    size_t len = strlen(job); /* without the zero byte, which is no part of a job */
+    char text[SAGECRUET_ROOM + 1];
+    size_t written = on_sheet ? sagecruet_answer_on(bytes, len, SHEET, (uint8_t *)text, SAGECRUET_ROOM)
+                              : sagecruet_answer(bytes, len, (uint8_t *)text, SAGECRUET_ROOM);
+    text[written] = '\0';
+
+    switch (number_of(text, "answer=")) {
+    case SAGECRUET_GRANTED:
+        show("load", number_of(text, "load="), 4, "pounds a year");
+        show("depth", number_of(text, "depth="), 2, "inches");
+        show("credit", number_of(text, "credit="), 3, "percent");
+        show("volume", number_of(text, "volume="), 5, "cubic feet");
+        show("removed", number_of(text, "removed="), 4, "pounds a year");
+        break;
+    case SAGECRUET_MALFORMED_TEXT: {
+        struct sagecruet_part part = sagecruet_fault(bytes, len);
+        printf("  line %" PRIu64 " cannot be read: %.*s\n", number_of(text, "line="), (int)part.len, job + part.from);
+        break;
+    }
+    case SAGECRUET_TARGET_UNREACHABLE:
+        puts("  no size reaches the target");
+        break;
+    default:
+        printf("  refused %" PRIu64 " on line %" PRIu64 "\n", number_of(text, "answer="), number_of(text, "line="));
+    }
+}
+
+/* Tests the sheet above. */
+static void test(void)
+{
+    struct sagecruet_verdict verdict = sagecruet_sheet(SHEET);
+    if (verdict.answer == SAGECRUET_GRANTED)
+        puts("  it keeps the rules");
+    else
+        printf("  it breaks a rule: list %" PRIu64 ", place %" PRIu64 "\n", verdict.list, verdict.place);
+}
+
+/* Prints a value with its unit, or why there is none. */
+static void value(const char *name, struct sagecruet_value found, int places, const char *unit)
+{
+    if (found.answer == SAGECRUET_GRANTED)
+        show(name, found.value, places, unit);
+    else if (found.answer == SAGECRUET_RATE_BELOW_SHEET)
+        printf("  %s: the soil is slower than every rate of the sheet\n", name);
+    else
+        printf("  %s: refused %" PRIu64 "\n", name, found.answer);
+}
+
+int main(void)
+{
+    puts("A basin for 70 percent of the phosphorus of 2.57 paved acres, by the published tables");
+    answer("practice=basin\nnutrient=P\nmode=step\nrate=39\ntask=size\namount=70000\narea=com,imp,-,257\n", false);
+    puts("The same with a slip");
+    answer("practice=basin\nnutrient=P\nmode=stepp\nrate=39\ntask=size\namount=70000\narea=com,imp,-,257\n", false);
+
+    puts("A sheet of our own");
+    test();
+    value("0.40 inches at 0.50 in/hr, mixed", sagecruet_percent(SHEET, true, 50, 40), 3, "percent");
+    value("0.40 inches at 0.24 in/hr", sagecruet_percent(SHEET, false, 24, 40), 3, "percent");
+    puts("A practice for 55.001 percent of the nitrogen of 7.50 acres, by that sheet");
+    answer("practice=basin\nnutrient=N\nmode=step\nrate=50\ntask=size\namount=55001\n"
+           "area=com,imp,-,400\narea=com,per,C,200\narea=com,per,B,150\n", true);
+    puts("The same for 70.001 percent of the paved 4.00 acres");
+    answer("practice=basin\nnutrient=N\nmode=step\nrate=50\ntask=size\namount=70001\narea=com,imp,-,400\n", true);
+    puts("The sheet with a percent that falls");
+    percents[4] = 35000;
+    test();
+
+    puts("A probe");
+    value("127 millimetres per hour", sagecruet_reading(true, 127.0f), 2, "inches per hour");
+    value("-1 inches per hour", sagecruet_reading(false, -1.0f), 2, "inches per hour");
+    return 0;
+}
