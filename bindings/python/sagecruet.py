@@ -1,52 +1,65 @@
 """Sagecruet from Python: stormwater loads, credits and design volumes.
 
-The functions call the proved library. It is built for x86-64 Linux; make a shared object of its archive once, in the
-repository's folder:
-
-    rt staticlib sagecruet
-    gcc -shared -o target/staticlib/libsagecruet.so \\
-        -Wl,--whole-archive target/staticlib/libsagecruet.a -Wl,--no-whole-archive
-
-The module looks for the shared object there, or where the environment variable SAGECRUET_LIBRARY says. Then, with
-bindings/python on the path (in a notebook: import sys; sys.path.insert(0, "bindings/python")):
-
     >>> import sagecruet
-    >>> job = sagecruet.job("basin", "P", "step", 39, "size", 70000, [("com", "imp", "-", 257)])
-    >>> sagecruet.answer(job)
+    >>> site = [("com", "imp", "-", sagecruet.from_acres("2.57"))]
+    >>> job = sagecruet.job("basin", "P", "step", sagecruet.from_inches_per_hour("0.39"),
+    ...                     "size", sagecruet.from_percent(70), site)
+    >>> answer = sagecruet.answer(job)
+    >>> answer
     {'answer': 0, 'load': 45746, 'depth': 36, 'credit': 70000, 'volume': 335847600, 'removed': 32022}
-    >>> sagecruet.reading(127.0, millimetres=True)
-    (0, 500)
+    >>> sagecruet.natural(answer)["volume"]
+    Decimal('3358.47600')
 
-All numbers are whole: areas in hundredths of an acre, depths in hundredths of an inch, rates in hundredths of an inch
-per hour, volumes in hundred-thousandths of a cubic foot, loads in ten-thousandths of a pound per year, percents in
-thousandths of a percent. REFUSALS says what the numbers given back mean.
+All numbers of a job and its answer are whole: areas in hundredths of an acre, depths in hundredths of an inch, rates in
+hundredths of an inch per hour, volumes in hundred-thousandths of a cubic foot, loads in ten-thousandths of a pound per
+year, percents in thousandths of a percent. from_acres, to_acres and their likes go from and to natural units, exactly.
+REFUSALS says what the numbers given back mean.
+
+The functions call the proved library, a shared object for x86-64 Linux. Where it cannot be loaded, whatever asks for a
+job on the published tables (answer, answer_text, curve, plot) goes by the program creditrun instead, and the rest raises
+Unavailable, which says why and what to do. backend() says which of the two is used. bindings/python/README.md says more.
 """
 
 import ctypes
+import functools
+import numbers
+import operator
 import os
+import platform
+import re
+import shlex
+import subprocess
+from decimal import Decimal, InvalidOperation
 from pathlib import Path
 from typing import NamedTuple
 
+# The words of the numbers given back, as docs/words.tsv has them; a test holds them to it.
 REFUSALS = {
-    0: "granted",
-    1: "the job text is too long, or a line of it is missing, unended, out of order or malformed",
-    2: "a sub-area is out of range, or its soil does not suit its cover",
-    3: "the total area would pass 1,000,000",
-    4: "no such practice",
-    5: "the lent sheet breaks a rule",
-    6: "the rate is above 10,000, or is not 0 on a sheet without rates",
-    7: "the rate is below the sheet's slowest",
-    8: "credit or size with no impervious area",
-    9: "the amount is out of range for the task, or the depth is above 200",
-    10: "the target is above the percent at depth 200",
-    11: "the reading is not a number, infinite or below zero",
-    12: "the reading rounds to over 10,000",
-    13: "the answer buffer is shorter than the answer text",
-    14: "the site already holds 32 sub-areas",
-    15: "a load or a volume is past 10^13",
+    0: "The job is granted.",
+    1: "The job cannot be read.",
+    2: "A sub-area does not fit.",
+    3: "The site is too large.",
+    4: "There is no such practice.",
+    5: "The lent sheet breaks a rule.",
+    6: "The rate is out of range.",
+    7: "The soil is too slow for the practice.",
+    8: "The site has no impervious area.",
+    9: "The amount is out of range for the task.",
+    10: "No size reaches the target.",
+    11: "The reading is no rate.",
+    12: "The reading is too fast.",
+    13: "There is no room for the answer text.",
+    14: "The site has more than 32 sub-areas.",
+    15: "A load or a volume is past the largest number.",
 }
 
 ROOM = 147  # enough for any answer text
+
+RATES = (17, 27, 52, 102, 241, 827)  # the rates of the tables of trench and basin; the other practices have none
+
+
+class Unavailable(RuntimeError):
+    """Neither the library nor, where it would do, the program can be used. The words say why, and what to do."""
 
 
 class Sheet(NamedTuple):
@@ -55,6 +68,208 @@ class Sheet(NamedTuple):
     depths: list
     rates: list
     percents: list
+
+
+# ---- Kinds of arguments
+
+def _refuse_kind(what, expected, value):
+    raise TypeError(f"{what}: expected {expected}, not {type(value).__name__}: {value!r}")
+
+
+def _whole(what, value):
+    """A whole number, whatever its size. True and False are none; what counts as a whole number elsewhere (numpy's) is."""
+    if isinstance(value, bool):
+        _refuse_kind(what, "a whole number", value)
+    try:
+        return operator.index(value)
+    except TypeError:
+        _refuse_kind(what, "a whole number", value)
+
+
+def _word(what, value):
+    """A word of a job. Which words there are is for the calculator to say; what would make another line or value is not."""
+    if not isinstance(value, str):
+        _refuse_kind(what, "a word", value)
+    if re.search(r"[\s,=]", value):
+        raise ValueError(f"{what}: a word has no space, line break, comma or equals sign: {value!r}")
+    return value
+
+
+def _flag(what, value):
+    if not isinstance(value, bool):
+        _refuse_kind(what, "True or False", value)
+    return value
+
+
+def _several(what, expected, values):
+    """Anything that can be gone through but a text or a dictionary, as a list."""
+    if isinstance(values, (str, bytes, dict)) or not hasattr(values, "__iter__"):
+        _refuse_kind(what, expected, values)
+    return list(values)
+
+
+def _text(job):
+    if not isinstance(job, (str, bytes)):
+        _refuse_kind("job", "a text (str or bytes)", job)
+    return job.encode() if isinstance(job, str) else job
+
+
+# ---- Natural units
+
+# What a whole number of a job counts: for each natural unit its decimals, and the name of the last of them.
+_UNITS = {
+    "acres": (2, "hundredths of an acre"),
+    "inches": (2, "hundredths of an inch"),
+    "inches_per_hour": (2, "hundredths of an inch per hour"),
+    "percent": (3, "thousandths of a percent"),
+    "cubic_feet": (5, "hundred-thousandths of a cubic foot"),
+    "pounds": (4, "ten-thousandths of a pound"),
+}
+
+_PARTS = {"load": "pounds", "depth": "inches", "credit": "percent", "volume": "cubic_feet", "removed": "pounds"}
+
+
+def _decimal(unit, value):
+    """A value in natural units as a Decimal, as exact as it was given. A float is refused: 10.13 as a float is not 10.13."""
+    if isinstance(value, float):
+        raise TypeError(f'{unit}: a float is not exact; write it as a string, "{value!r}", or as a Decimal')
+    if isinstance(value, Decimal):
+        return value
+    if isinstance(value, str):
+        try:
+            return Decimal(value)
+        except InvalidOperation:
+            raise ValueError(f"{unit}: not a number: {value!r}") from None
+    if isinstance(value, bool) or not isinstance(value, numbers.Integral):
+        _refuse_kind(unit, "a string, a whole number or a Decimal", value)
+    return Decimal(operator.index(value))
+
+
+def _from(unit, value):
+    """The whole number of a value in natural units. It goes by the digits, so no precision of decimals plays a part."""
+    places, counted = _UNITS[unit]
+    number = _decimal(unit, value)
+    if not number.is_finite():
+        raise ValueError(f"{unit}: not a number: {value!r}")
+    if not number:
+        return 0
+    if number.is_signed():
+        raise ValueError(f"{unit}: below zero: {value!r}")
+    if number.adjusted() > 30:
+        raise ValueError(f"{unit}: far above any number of a job: {value!r}")
+    _, digits, exponent = number.as_tuple()
+    written, shift = "".join(map(str, digits)), exponent + places
+    if shift >= 0:
+        return int(written) * 10**shift
+    if written[shift:].strip("0"):
+        raise ValueError(f"{unit}: not a whole number of {counted}: {value!r}")
+    return int(written[:shift] or "0")
+
+
+def _to(unit, value):
+    """A whole number in natural units, with all the decimals that it carries."""
+    places, counted = _UNITS[unit]
+    number = _whole(counted, value)
+    if number < 0:
+        raise ValueError(f"{counted}: below zero: {value!r}")
+    return Decimal((0, tuple(map(int, str(number))), -places))
+
+
+def from_acres(value):
+    """Hundredths of an acre, from acres as a string, a whole number or a Decimal. What is not exact is refused.
+
+    >>> from_acres("10.13")
+    1013
+    >>> from_acres("10.135")
+    Traceback (most recent call last):
+    ValueError: acres: not a whole number of hundredths of an acre: '10.135'
+    >>> from_acres(10.13)
+    Traceback (most recent call last):
+    TypeError: acres: a float is not exact; write it as a string, "10.13", or as a Decimal
+    """
+    return _from("acres", value)
+
+
+def to_acres(value):
+    """Acres as a Decimal, from hundredths of an acre.
+
+    >>> to_acres(1013)
+    Decimal('10.13')
+    """
+    return _to("acres", value)
+
+
+def from_inches(value):
+    """Hundredths of an inch, from inches."""
+    return _from("inches", value)
+
+
+def to_inches(value):
+    """Inches as a Decimal, from hundredths of an inch."""
+    return _to("inches", value)
+
+
+def from_inches_per_hour(value):
+    """Hundredths of an inch per hour, from inches per hour."""
+    return _from("inches_per_hour", value)
+
+
+def to_inches_per_hour(value):
+    """Inches per hour as a Decimal, from hundredths of an inch per hour."""
+    return _to("inches_per_hour", value)
+
+
+def from_percent(value):
+    """Thousandths of a percent, from percent."""
+    return _from("percent", value)
+
+
+def to_percent(value):
+    """Percent as a Decimal, from thousandths of a percent."""
+    return _to("percent", value)
+
+
+def from_cubic_feet(value):
+    """Hundred-thousandths of a cubic foot, from cubic feet."""
+    return _from("cubic_feet", value)
+
+
+def to_cubic_feet(value):
+    """Cubic feet as a Decimal, from hundred-thousandths of a cubic foot."""
+    return _to("cubic_feet", value)
+
+
+def from_pounds(value):
+    """Ten-thousandths of a pound, from pounds."""
+    return _from("pounds", value)
+
+
+def to_pounds(value):
+    """Pounds as a Decimal, from ten-thousandths of a pound."""
+    return _to("pounds", value)
+
+
+def natural(answer):
+    """An answer in natural units: load and removed in pounds a year, depth in inches, credit in percent, volume in cubic
+    feet, as Decimals; the number given back, and the line of a refusal, as they are."""
+    if not isinstance(answer, dict):
+        _refuse_kind("natural", "an answer, as answer() gives it", answer)
+    return {key: _to(_PARTS[key], value) if key in _PARTS else value for key, value in answer.items()}
+
+
+# ---- The library and the program
+
+def _repository():
+    """The folder of the repository, where this file stands in one."""
+    above = Path(__file__).resolve().parents
+    found = above[2] if len(above) > 2 else None
+    return found if found and (found / "crates.txt").is_file() and (found / "run").is_file() else None
+
+
+def _place():
+    """Where the shared object is looked for, or None."""
+    named, repository = os.environ.get("SAGECRUET_LIBRARY"), _repository()
+    return named or (str(repository / "target" / "staticlib" / "libsagecruet.so") if repository else None)
 
 
 class _Part(ctypes.Structure):
@@ -69,9 +284,11 @@ class _Value(ctypes.Structure):
     _fields_ = [("answer", ctypes.c_uint64), ("value", ctypes.c_uint64)]
 
 
-def _load():
-    beside = Path(__file__).resolve().parents[2] / "target" / "staticlib" / "libsagecruet.so"
-    library = ctypes.CDLL(os.environ.get("SAGECRUET_LIBRARY", str(beside)))
+@functools.lru_cache(maxsize=None)
+def _loaded(place):
+    """The shared object at a place, its functions typed as include/sagecruet.h has them. A failure is not kept: what is
+    built later is found later."""
+    library = ctypes.CDLL(place)
     text = [ctypes.c_char_p, ctypes.c_size_t]
     sheet = 3 * [ctypes.POINTER(ctypes.c_uint64), ctypes.c_size_t]
     for name, takes, gives in (
@@ -87,75 +304,252 @@ def _load():
     return library
 
 
-_library = _load()
+def _library():
+    """The library, or Unavailable with the reason."""
+    place, machine = _place(), platform.machine()
+    if place is None:
+        why = "this module does not stand in the repository"
+    else:
+        try:
+            return _loaded(place)
+        except (OSError, AttributeError) as error:
+            why = f"{place} cannot be loaded: {error}" if Path(place).exists() else f"there is no file {place}"
+    if machine not in ("x86_64", "AMD64"):
+        raise Unavailable(f"the library is for x86-64 and this processor is {machine}; here answer, answer_text, curve and plot "
+                          "work, on the published tables, by the program creditrun")
+    raise Unavailable(f"{why}; `make shared` in the repository's folder writes target/staticlib/libsagecruet.so, and "
+                      "SAGECRUET_LIBRARY can name another place")
 
 
-def _whole(number):
-    """A number that the library can be handed as it is."""
-    if not isinstance(number, int) or not 0 <= number < 2**64:
-        raise ValueError(f"not a whole number from 0 to 2**64 - 1: {number!r}")
-    return number
+def _program():
+    """The command that reads a job and prints its answer, or Unavailable with the reason. The repository's `run` builds
+    the program where it is not there, which takes minutes; that is left to whoever wants it."""
+    named, repository = os.environ.get("SAGECRUET_PROGRAM", "").strip(), _repository()
+    if named:
+        return _command(named)
+    if repository is None:
+        raise Unavailable('this module does not stand in the repository; set SAGECRUET_PROGRAM to "FOLDER/run -q", FOLDER being '
+                          "the repository's")
+    if not (repository / "target" / "bin" / "creditrun").is_file():
+        raise Unavailable(f"the program is not built; `./run jobs/sample.job` in {repository} proves and builds it, which takes "
+                          "some minutes")
+    return [str(repository / "run"), "-q"]
 
 
-def _list(values):
-    """A list as a pointer and a count. The memory behind it has one element more, so that no pointer is null."""
-    values = [_whole(value) for value in values]
-    return (ctypes.c_uint64 * (len(values) + 1))(*values), len(values)
+def _command(named):
+    """A command as a shell would part it."""
+    try:
+        return shlex.split(named)
+    except ValueError as error:
+        raise Unavailable(f"SAGECRUET_PROGRAM is no command: {error}: {named!r}") from None
 
 
-def _lists(sheet):
-    return [argument for values in sheet for argument in _list(values)]
+def _found():
+    """("library", it), ("program", its command), or Unavailable with the reasons of both."""
+    try:
+        return "library", _library()
+    except Unavailable as error:
+        no_library = error
+    try:
+        return "program", _program()
+    except Unavailable as no_program:
+        raise Unavailable(f"no library: {no_library}. No program: {no_program}.") from None
 
 
-def _bytes(job):
-    return job.encode() if isinstance(job, str) else bytes(job)
+def backend():
+    """What answers a job on the published tables: "library", "program", or None where neither is there."""
+    try:
+        return _found()[0]
+    except Unavailable:
+        return None
 
+
+_ANSWER = re.compile(rb"answer=0\nload=\d+\ndepth=\d+\ncredit=\d+\nvolume=\d+\nremoved=\d+\n|answer=\d+\nline=\d+\n")
+
+
+def _by_program(command, job):
+    """The answer text that the program prints. Its standard error is left alone, so that a build that `run` starts is seen."""
+    named = shlex.join(command)
+    try:
+        done = subprocess.run(command, input=job, stdout=subprocess.PIPE, check=False)
+    except OSError as error:
+        raise Unavailable(f"the command {named} cannot be started: {error}") from None
+    if done.returncode not in (0, 1) or not _ANSWER.fullmatch(done.stdout):
+        raise Unavailable(f"the command {named} gave no answer and ended with status {done.returncode}; what it said is on "
+                          "standard error")
+    return done.stdout
+
+
+# ---- Jobs
 
 def job(practice, nutrient, mode, rate, task, amount, areas):
-    """A job text, from its values and a list of (use, cover, soil, area)."""
-    lines = [f"practice={practice}", f"nutrient={nutrient}", f"mode={mode}", f"rate={rate}", f"task={task}", f"amount={amount}"]
-    lines += ["area=" + ",".join(map(str, area)) for area in areas]
+    """A job text, from its values and a list of (use, cover, soil, area). It judges the kinds of the values alone: a word or
+    a number that no job may have is refused by the calculator, with its number and line.
+
+    >>> print(job("basin", "N", "step", 0, "load", 0, [("ind", "imp", "-", 1013)]), end="")
+    practice=basin
+    nutrient=N
+    mode=step
+    rate=0
+    task=load
+    amount=0
+    area=ind,imp,-,1013
+    """
+    lines = [
+        f"practice={_word('practice', practice)}",
+        f"nutrient={_word('nutrient', nutrient)}",
+        f"mode={_word('mode', mode)}",
+        f"rate={_whole('rate', rate)}",
+        f"task={_word('task', task)}",
+        f"amount={_whole('amount', amount)}",
+    ]
+    for place, area in enumerate(_several("areas", "a list of (use, cover, soil, area)", areas)):
+        what = f"areas[{place}]"
+        if not isinstance(area, (tuple, list)) or len(area) != 4:
+            _refuse_kind(what, "(use, cover, soil, area)", area)
+        words = [_word(what, word) for word in area[:3]]
+        lines.append("area=" + ",".join(words + [str(_whole(what, area[3]))]))
     return "".join(line + "\n" for line in lines)
 
 
+def _lists(sheet):
+    """A sheet as the library takes it: for each list a pointer and a count. The memory behind a list has one element more,
+    so that no pointer is null."""
+    if not isinstance(sheet, (tuple, list)) or len(sheet) != 3:
+        _refuse_kind("sheet", "three lists: depths, rates and percents", sheet)
+    arguments = []
+    for what, values in zip(Sheet._fields, sheet):
+        if not isinstance(values, (tuple, list)):
+            _refuse_kind(f"sheet: {what}", "a list of whole numbers", values)
+        values = [_unsigned(f"sheet: {what}", value) for value in values]
+        arguments += [(ctypes.c_uint64 * (len(values) + 1))(*values), len(values)]
+    return arguments
+
+
+def _unsigned(what, value):
+    """A whole number that the library can be handed as it is."""
+    number = _whole(what, value)
+    if not 0 <= number < 2**64:
+        raise ValueError(f"{what}: not from 0 to 2**64 - 1: {value!r}")
+    return number
+
+
 def answer_text(job, sheet=None, room=ROOM):
-    """The answer text of a job, on the published tables or on a lent sheet; None where `room` bytes are too few."""
-    job = _bytes(job)
+    """The answer text of a job, on the published tables or on a lent sheet; None where `room` bytes are too few. A lent sheet
+    needs the library."""
+    job, room = _text(job), min(_unsigned("room", room), ROOM)
+    lists = None if sheet is None else _lists(sheet)
+    which, found = _found() if sheet is None else ("library", _library())
+    if which == "program":
+        text = _by_program(found, job)
+        return text.decode() if len(text) <= room else None
     text = ctypes.create_string_buffer(room + 1)
     if sheet is None:
-        length = _library.sagecruet_answer(job, len(job), text, room)
+        length = found.sagecruet_answer(job, len(job), text, room)
     else:
-        length = _library.sagecruet_answer_on(job, len(job), *_lists(sheet), text, room)
+        length = found.sagecruet_answer_on(job, len(job), *lists, text, room)
     return text.raw[:length].decode() if length else None
 
 
 def answer(job, sheet=None):
-    """The answer of a job as a dictionary: answer, load, depth, credit, volume and removed, or answer and line."""
+    """The answer of a job as a dictionary: answer, load, depth, credit, volume and removed, or answer and line.
+
+    >>> answer("practice=basin")
+    {'answer': 1, 'line': 1}
+    """
     return {key: int(value) for key, value in (line.split("=") for line in answer_text(job, sheet).splitlines())}
 
 
+# ---- What needs the library
+
 def fault(job):
     """The offending line of a job text that is refused 1, as (place of its first byte, its bytes); any other text has
-    an empty one at its end."""
-    job = _bytes(job)
-    part = _library.sagecruet_fault(job, len(job))
+    an empty one at its end. Needs the library.
+
+    >>> fault("practice=basin\\nnutrient=n\\n")
+    (15, b'nutrient=n')
+    """
+    job = _text(job)
+    part = _library().sagecruet_fault(job, len(job))
     return part.start, job[part.start:part.start + part.length]
 
 
 def sheet_verdict(sheet):
-    """The test of a sheet: (0, 0, 0), or 5 with the list (1 depths, 2 rates, 3 percents) and the offending index in it."""
-    verdict = _library.sagecruet_sheet(*_lists(sheet))
+    """The test of a sheet: (0, 0, 0), or 5 with the list (1 depths, 2 rates, 3 percents) and the offending index in it.
+    Needs the library.
+
+    >>> sheet_verdict(Sheet([20, 60, 100], [25, 75], [20000, 50000, 70000, 40000, 35000, 80000]))
+    (5, 3, 4)
+    """
+    lists = _lists(sheet)
+    verdict = _library().sagecruet_sheet(*lists)
     return verdict.answer, verdict.list, verdict.place
 
 
 def percent(sheet, rate, depth, mix=False):
-    """(answer, percent) of a sheet at a rate and a depth, in mode step or mix."""
-    value = _library.sagecruet_percent(*_lists(sheet), mix, _whole(rate), _whole(depth))
+    """(answer, percent) of a sheet at a rate and a depth, in mode step or mix. Needs the library.
+
+    >>> percent(Sheet([20, 60, 100], [25, 75], [20000, 50000, 70000, 40000, 65000, 80000]), 50, 40, mix=True)
+    (0, 43750)
+    """
+    arguments = _lists(sheet) + [_flag("mix", mix), _unsigned("rate", rate), _unsigned("depth", depth)]
+    value = _library().sagecruet_percent(*arguments)
     return value.answer, value.value
 
 
 def reading(value, millimetres=False):
-    """(answer, rate) of a probe reading in inches or millimetres per hour. The reading is rounded to a 32-bit float
-    first, as a probe gives it."""
-    result = _library.sagecruet_reading(millimetres, value)
+    """(answer, rate) of a probe reading in inches or millimetres per hour, a float or a whole number. The reading is rounded
+    to a 32-bit float first, as a probe gives it. Needs the library.
+
+    >>> reading(127.0, millimetres=True)
+    (0, 500)
+    """
+    if isinstance(value, bool) or not isinstance(value, numbers.Real):
+        _refuse_kind("reading", "a float or a whole number", value)
+    value, millimetres = float(value), _flag("millimetres", millimetres)
+    result = _library().sagecruet_reading(millimetres, value)
     return result.answer, result.value
+
+
+# ---- Curves
+
+def curve(practice, nutrient, rate=0, mode="step", depths=range(0, 201, 10)):
+    """Points (depth, percent) of a published curve, in whole numbers, at the depths that are asked for, 0 to 200. Each point is
+    the answer of a credit job: the practice has the volume of that depth on a hundredth of an acre of pavement. By the program
+    a point costs a start of it.
+
+    >>> curve("basin", "P", rate=52, depths=[0, 10, 30])
+    [(0, 0), (10, 38000), (30, 66500)]
+    """
+    points = []
+    for depth in _several("depths", "a list of whole numbers", depths):
+        depth = _whole("depth", depth)
+        if not 0 <= depth <= 200:
+            raise ValueError(f"depth: not from 0 to 200 hundredths of an inch: {depth!r}")
+        given = answer(job(practice, nutrient, mode, rate, "credit", 121 * 300 * depth, [("com", "imp", "-", 1)]))
+        if given["answer"]:
+            raise ValueError(f"refused {given['answer']}: {REFUSALS[given['answer']]}")
+        points.append((depth, given["credit"]))
+    return points
+
+
+def plot(practice, nutrient, rates=None, mode="step", axes=None):
+    """Draws the published curves of a practice with matplotlib, one for each rate, and gives back the axes. Without `rates`
+    they are those of the tables."""
+    try:
+        from matplotlib import pyplot
+    except ImportError:
+        raise ImportError("plot needs matplotlib (Debian: python3-matplotlib; pip: matplotlib); docs/curves in the repository "
+                          "has a picture of each practice") from None
+    if rates is None:
+        ask = job(practice, nutrient, mode, 0, "credit", 0, [("com", "imp", "-", 1)])
+        rates = RATES if answer(ask)["answer"] == 7 else (0,)
+    axes = pyplot.subplots()[1] if axes is None else axes
+    for rate in _several("rates", "a list of whole numbers", rates):
+        points = curve(practice, nutrient, rate, mode)
+        label = f"{to_inches_per_hour(rate)} in/hr" if rate else practice
+        axes.plot([depth / 100 for depth, _ in points], [credit / 1000 for _, credit in points], label=label)
+    axes.set(title=f"{practice}, {nutrient}", xlabel="depth, inches", ylabel="credit, percent", xlim=(0, 2), ylim=(0, 102))
+    axes.grid(True, alpha=0.3)
+    axes.legend(loc="lower right")
+    return axes

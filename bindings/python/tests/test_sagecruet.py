@@ -1,0 +1,467 @@
+"""Tests of the module sagecruet, and of the examples in it and in README.md:
+
+    python3 -m unittest discover -s bindings/python/tests
+
+They go by the library where it loads, and else by the program; what needs one that is not there is skipped. What is held to
+files of the repository is tried where the module stands in it.
+"""
+
+import contextlib
+import decimal
+import doctest
+import importlib.util
+import os
+import re
+import shutil
+import sys
+import tempfile
+import unittest
+from decimal import Decimal
+from pathlib import Path
+from unittest import mock
+
+HERE = Path(__file__).resolve().parent
+sys.path.insert(0, str(HERE.parent))
+
+import sagecruet  # noqa: E402
+
+ROOT = HERE.parents[2]
+IN_REPOSITORY = (ROOT / "crates.txt").is_file()
+
+# Sheet T of the rules.
+T = sagecruet.Sheet([20, 60, 100], [25, 75], [20000, 50000, 70000, 40000, 65000, 80000])
+PAVED = [("com", "imp", "-", 257)]
+SIZE = sagecruet.job("basin", "P", "step", 39, "size", 70000, PAVED)
+
+needs_answers = unittest.skipIf(sagecruet.backend() is None, "neither the library nor the program is there")
+needs_library = unittest.skipIf(sagecruet.backend() != "library", "the library cannot be loaded here")
+needs_repository = unittest.skipIf(not IN_REPOSITORY, "the module does not stand in the repository")
+
+
+def examples_need(test):
+    """Skips the examples of a docstring, or of README.md, that need more than is there."""
+    name = test.name.split(".")[-1]
+    if name in ("fault", "sheet_verdict", "percent", "reading") and sagecruet.backend() != "library":
+        raise unittest.SkipTest("the library cannot be loaded here")
+    if name in ("sagecruet", "answer", "curve", "md") and sagecruet.backend() is None:
+        raise unittest.SkipTest("neither the library nor the program is there")
+
+
+def load_tests(loader, tests, pattern):
+    tests.addTests(doctest.DocTestSuite(sagecruet, setUp=examples_need))
+    tests.addTests(doctest.DocFileSuite(str(HERE.parent / "README.md"), module_relative=False, setUp=examples_need))
+    return tests
+
+
+class Units(unittest.TestCase):
+    def test_each_unit_has_its_decimals(self):
+        for name, written, whole in (
+            ("acres", "10.13", 1013),
+            ("inches", "0.36", 36),
+            ("inches_per_hour", "8.27", 827),
+            ("percent", "90.800", 90800),
+            ("cubic_feet", "3358.47600", 335847600),
+            ("pounds", "156.8350", 1568350),
+        ):
+            with self.subTest(unit=name):
+                self.assertEqual(getattr(sagecruet, "from_" + name)(written), whole)
+                self.assertEqual(getattr(sagecruet, "from_" + name)(Decimal(written)), whole)
+                self.assertEqual(str(getattr(sagecruet, "to_" + name)(whole)), written)
+
+    def test_whole_numbers_and_powers_of_ten(self):
+        self.assertEqual(sagecruet.from_cubic_feet(15000), 1500000000)
+        self.assertEqual(sagecruet.from_acres(Decimal("1E+2")), 10000)
+        self.assertEqual(sagecruet.from_acres("10.1300"), 1013)
+        self.assertEqual(sagecruet.from_acres("0E+99999"), 0)
+        self.assertEqual(sagecruet.from_acres("-0.0"), 0)
+        self.assertEqual(str(sagecruet.to_cubic_feet(0)), "0.00000")
+        self.assertEqual(str(sagecruet.to_cubic_feet(1)), "0.00001")
+
+    def test_a_float_is_a_type_error_that_says_to_write_a_string(self):
+        with self.assertRaisesRegex(TypeError, 'acres: a float is not exact; write it as a string, "10.13"'):
+            sagecruet.from_acres(10.13)
+        with self.assertRaisesRegex(TypeError, "whole number, not float"):
+            sagecruet.to_acres(1013.0)
+
+    def test_what_is_not_exact_is_refused_with_the_unit(self):
+        for name, written, counted in (
+            ("acres", "10.135", "hundredths of an acre"),
+            ("inches", "0.001", "hundredths of an inch"),
+            ("inches_per_hour", "0.525", "hundredths of an inch per hour"),
+            ("percent", "0.0001", "thousandths of a percent"),
+            ("cubic_feet", "0.000001", "hundred-thousandths of a cubic foot"),
+            ("pounds", "1E-5", "ten-thousandths of a pound"),
+            ("acres", "1E-99999999", "hundredths of an acre"),
+        ):
+            for value in (written, Decimal(written)):
+                with self.subTest(unit=name, value=value), self.assertRaisesRegex(ValueError, f"{name}: not a .* {counted}:"):
+                    getattr(sagecruet, "from_" + name)(value)
+
+    def test_no_numbers_are_refused(self):
+        wrong = ["NaN", "Infinity", Decimal("NaN"), Decimal("sNaN"), Decimal("-Infinity"), "ten", "", "1,000", "10.13 acres"]
+        for value in wrong:
+            with self.subTest(value=value), self.assertRaisesRegex(ValueError, "acres: not a number"):
+                sagecruet.from_acres(value)
+        for value in (-1, "-0.01", Decimal(-5)):
+            with self.subTest(value=value), self.assertRaisesRegex(ValueError, "below zero"):
+                sagecruet.from_acres(value)
+        with self.assertRaisesRegex(ValueError, "below zero"):
+            sagecruet.to_acres(-1)
+        with self.assertRaisesRegex(ValueError, "far above"):
+            sagecruet.from_acres("1E+999999999")
+
+    def test_other_kinds_are_type_errors(self):
+        for value in (None, True, b"10.13", [10], 1j):
+            with self.subTest(value=value):
+                self.assertRaisesRegex(TypeError, "^acres: expected", sagecruet.from_acres, value)
+        for value in (None, True, "1013", Decimal(1013)):
+            with self.subTest(value=value):
+                self.assertRaisesRegex(TypeError, "hundredths of an acre: expected a whole", sagecruet.to_acres, value)
+
+    def test_the_precision_of_decimals_plays_no_part(self):
+        with decimal.localcontext() as context:
+            context.prec = 2
+            for trap in context.traps:
+                context.traps[trap] = trap is decimal.Inexact
+            self.assertEqual(sagecruet.from_cubic_feet("123456789.12345"), 12345678912345)
+            self.assertEqual(str(sagecruet.to_cubic_feet(12345678912345)), "123456789.12345")
+            self.assertRaises(ValueError, sagecruet.from_acres, "ten")
+
+    def test_an_answer_in_natural_units(self):
+        given = {"answer": 0, "load": 45746, "depth": 36, "credit": 70000, "volume": 335847600, "removed": 32022}
+        self.assertEqual(
+            {key: str(value) for key, value in sagecruet.natural(given).items()},
+            {"answer": "0", "load": "4.5746", "depth": "0.36", "credit": "70.000", "volume": "3358.47600", "removed": "3.2022"},
+        )
+        self.assertEqual(sagecruet.natural({"answer": 1, "line": 8}), {"answer": 1, "line": 8})
+        self.assertRaises(TypeError, sagecruet.natural, "answer=0")
+
+
+class JobTexts(unittest.TestCase):
+    @needs_repository
+    def test_the_sample_job(self):
+        areas = [("ind", "imp", "-", 1013), ["com", "per", "C", 185], ("for", "per", "C", 89)]
+        self.assertEqual(sagecruet.job("basin", "N", "step", 0, "load", 0, areas), (ROOT / "jobs" / "sample.job").read_text())
+
+    def test_wrong_kinds(self):
+        good = ["basin", "P", "step", 39, "size", 70000, PAVED]
+        for place, name, wrong in (
+            (0, "practice", 1), (1, "nutrient", None), (2, "mode", b"step"),
+            (3, "rate", 0.39), (3, "rate", "39"), (3, "rate", True),
+            (4, "task", ["size"]), (5, "amount", 70.0), (5, "amount", Decimal(70000)), (6, "areas", 257), (6, "areas", "area"),
+            (6, "areas", {"com": 257}), (6, r"areas\[0\]", ("com", "imp", "-", 257)),
+            (6, r"areas\[0\]", ["abcd"]), (6, r"areas\[0\]", [257]),
+            (6, r"areas\[1\]", PAVED + [("com", "imp", 257)]), (6, r"areas\[0\]", [("com", "imp", "-", "257")]),
+            (6, r"areas\[0\]", [("com", "imp", "-", 2.57)]), (6, r"areas\[0\]", [("com", "imp", None, 257)]),
+        ):
+            with self.subTest(name=name, wrong=wrong), self.assertRaisesRegex(TypeError, f"^{name}: expected "):
+                sagecruet.job(*good[:place], wrong, *good[place + 1:])
+
+    def test_no_word_makes_a_line_or_a_value(self):
+        good = ["basin", "P", "step", 39, "size", 70000, PAVED]
+        for place, wrong in (
+            (0, "basin\nnutrient=P"), (1, "P\r"), (2, "step "), (4, "size\x0bamount"), (0, "basin=trench"), (0, "basin\u2028"),
+            (6, [("com", "imp", "-,257\narea=com,imp,-", 257)]), (6, [("com,imp", "-", "1", 257)]),
+        ):
+            with self.subTest(wrong=wrong), self.assertRaisesRegex(ValueError, "a word has no"):
+                sagecruet.job(*good[:place], wrong, *good[place + 1:])
+
+    @needs_answers
+    def test_words_and_numbers_that_no_job_has_are_for_the_calculator(self):
+        for practice, rate, areas, line in (("Basin", 39, PAVED, 1), ("basin", -1, PAVED, 4), ("basin", 39, [], 7)):
+            text = sagecruet.job(practice, "P", "step", rate, "size", 70000, areas)
+            self.assertEqual(sagecruet.answer(text), {"answer": 1, "line": line})
+
+
+class Answers(unittest.TestCase):
+    @needs_answers
+    @needs_repository
+    def test_the_sample_jobs_are_answered_as_their_page_says(self):
+        page = (ROOT / "jobs" / "README.md").read_text()
+        rows = re.findall(r"^\| `([\w-]+\.job)` \|.*`(answer=[^`]*)` \|$", page, re.M)
+        self.assertGreaterEqual(len(rows), 7)
+        for name, words in rows:
+            with self.subTest(job=name):
+                text = (ROOT / "jobs" / name).read_bytes()
+                self.assertEqual(sagecruet.answer_text(text), words.replace(" ", "\n") + "\n")
+                self.assertEqual(sagecruet.answer(text.decode()), {k: int(v) for k, v in (w.split("=") for w in words.split())})
+
+    @needs_answers
+    def test_a_volume_of_the_rules(self):
+        # V(36) of 2.57 paved acres is 335,847,600: the basin's curve of 0.27 in/hr, 54 at 0.2 in and 74 at 0.4, is at 70 there.
+        given = sagecruet.answer(SIZE)
+        self.assertEqual((given["depth"], given["credit"], given["volume"]), (36, 70000, 335847600))
+
+    @needs_answers
+    def test_texts_that_do_not_read(self):
+        self.assertEqual(sagecruet.answer(""), {"answer": 1, "line": 1})
+        self.assertEqual(sagecruet.answer(b"\xff\n"), {"answer": 1, "line": 1})
+        self.assertEqual(sagecruet.answer(SIZE[:-1]), {"answer": 1, "line": 7})
+        self.assertEqual(sagecruet.answer(SIZE.replace("\n", "\r\n")), {"answer": 1, "line": 1})
+        for length in (4097, 200_000):
+            self.assertEqual(sagecruet.answer(SIZE + "x" * (length - len(SIZE))), {"answer": 1, "line": 0})
+
+    @needs_answers
+    def test_too_little_room_is_none(self):
+        text = "answer=1\nline=1\n"
+        self.assertEqual(sagecruet.answer_text("", room=len(text)), text)
+        self.assertIsNone(sagecruet.answer_text("", room=len(text) - 1))
+        self.assertIsNone(sagecruet.answer_text("", room=0))
+        self.assertEqual(sagecruet.answer_text("", room=2**63), text)
+
+    def test_wrong_kinds(self):
+        for function in (sagecruet.answer, sagecruet.answer_text, sagecruet.fault):
+            for wrong in (None, 5, 1.5, ["practice=basin"], bytearray(b"practice"), Path("jobs/sample.job")):
+                with self.subTest(function=function.__name__, wrong=wrong):
+                    self.assertRaisesRegex(TypeError, r"job: expected a text \(str or bytes\)", function, wrong)
+        self.assertRaisesRegex(TypeError, "room: expected a whole number", sagecruet.answer_text, SIZE, room=1.0)
+        self.assertRaisesRegex(ValueError, "room: not from 0", sagecruet.answer_text, SIZE, room=-1)
+
+    @needs_repository
+    def test_words_are_those_of_the_table(self):
+        rows = [line.split("\t") for line in (ROOT / "docs" / "words.tsv").read_text().splitlines() if line[:1].isdigit()]
+        self.assertEqual(sagecruet.REFUSALS, {int(number): words for number, _, words, _ in rows})
+        self.assertIn(f"Lend {sagecruet.ROOM} bytes, which hold any answer.", [row[3] for row in rows])
+
+
+class WithTheLibrary(unittest.TestCase):
+    @needs_library
+    def test_sheet_T(self):
+        self.assertEqual(sagecruet.sheet_verdict(T), (0, 0, 0))
+        for depth, percent in ((40, 35000), (0, 0), (10, 10000), (200, 70000)):
+            self.assertEqual(sagecruet.percent(T, 50, depth), (0, percent))
+        self.assertEqual(sagecruet.percent(T, 50, 40, mix=True), (0, 43750))
+        self.assertEqual(sagecruet.percent(T, 26, 33, mix=True), (0, 30117))
+        self.assertEqual(sagecruet.percent(T, 24, 33), (7, 0))
+        self.assertEqual(sagecruet.percent(T, 50, 201), (9, 0))
+        self.assertEqual(sagecruet.sheet_verdict((T.depths, T.rates, [20000, 50000, 70000, 40000, 35000, 80000])), (5, 3, 4))
+        self.assertEqual(sagecruet.sheet_verdict(([], [], [])), (5, 0, 0))
+
+    @needs_library
+    def test_a_job_on_a_lent_sheet(self):
+        areas = [("com", "imp", "-", 400), ("com", "per", "C", 200), ("open", "per", "B", 150)]
+        given = sagecruet.answer(sagecruet.job("swale", "P", "step", 50, "size", 55001, areas), T)
+        self.assertEqual((given["answer"], given["depth"], given["credit"], given["volume"]), (0, 71, 55500, 1100343750))
+        given = sagecruet.answer(sagecruet.job("swale", "P", "step", 50, "credit", 1100343749, areas), T)
+        self.assertEqual((given["answer"], given["depth"], given["credit"]), (0, 70, 55000))
+        self.assertIsNone(sagecruet.answer_text(SIZE, T, room=3))
+
+    @needs_library
+    def test_readings(self):
+        self.assertEqual([sagecruet.reading(value) for value in (0.25, 0.5, 5, -0.0)], [(0, 25), (0, 50), (0, 500), (0, 0)])
+        self.assertEqual(sagecruet.reading(127.0, millimetres=True), (0, 500))
+        self.assertEqual([sagecruet.reading(value)[0] for value in (float("nan"), float("inf"), -1, 101)], [11, 11, 11, 12])
+
+    @needs_library
+    def test_the_offending_line(self):
+        self.assertEqual(sagecruet.fault(SIZE.replace("mode=step", "mode=Step")), (SIZE.index("mode"), b"mode=Step"))
+        self.assertEqual(sagecruet.fault(SIZE), (len(SIZE), b""))
+
+    def test_wrong_kinds(self):
+        for wrong in (5, "abc", (T.depths, T.rates), {"depths": []}):
+            for call in (
+                lambda: sagecruet.sheet_verdict(wrong),
+                lambda: sagecruet.percent(wrong, 50, 40),
+                lambda: sagecruet.answer(SIZE, wrong),
+            ):
+                with self.subTest(wrong=wrong):
+                    self.assertRaisesRegex(TypeError, "^sheet: expected three lists", call)
+        self.assertRaisesRegex(TypeError, "^sheet: expected three lists", sagecruet.sheet_verdict, None)
+        for place, name in enumerate(sagecruet.Sheet._fields):
+            for wrong, kind in ((20, "list"), ("20", "list"), ([20.0], "whole"), ([True], "whole")):
+                with self.subTest(name=name, wrong=wrong), self.assertRaisesRegex(TypeError, f"^sheet: {name}: expected a {kind}"):
+                    sagecruet.sheet_verdict(T[:place] + (wrong,) + T[place + 1:])
+        self.assertRaisesRegex(ValueError, "^sheet: depths: not from 0", sagecruet.sheet_verdict, ([-1], [0], [0]))
+        self.assertRaisesRegex(TypeError, "^rate: expected a whole number", sagecruet.percent, T, 0.5, 40)
+        self.assertRaisesRegex(ValueError, "^depth: not from 0", sagecruet.percent, T, 50, 2**64)
+        self.assertRaisesRegex(TypeError, "^mix: expected True or False", sagecruet.percent, T, 50, 40, "mix")
+        self.assertRaisesRegex(TypeError, "^millimetres: expected True or False", sagecruet.reading, 1.0, "mm")
+        for wrong in (None, "0.5", Decimal("0.5"), True, 1j):
+            with self.subTest(wrong=wrong):
+                self.assertRaisesRegex(TypeError, "^reading: expected a float", sagecruet.reading, wrong)
+
+
+class Curves(unittest.TestCase):
+    @needs_answers
+    def test_printed_points(self):
+        # Tables 3-14 and 3-19 of document 001, in percent.
+        depths = [10, 20, 40, 60, 80, 100, 150, 200]
+        for practice, nutrient, rate, printed in (
+            ("basin", "P", 52, [38, 56, 77, 87, 92, 95, 98, 99]),
+            ("wetland", "N", 0, [22, 33, 48, 57, 64, 68, 74, 79]),
+        ):
+            points = sagecruet.curve(practice, nutrient, rate, depths=depths)
+            self.assertEqual(points, [(depth, 1000 * percent) for depth, percent in zip(depths, printed)])
+
+    @needs_answers
+    def test_points_between(self):
+        # 38 and 56 at 0.10 and 0.20 in; between 0.27 and 0.52 in/hr at 0.10 in, 37 + 12/25 of 1.
+        self.assertEqual(sagecruet.curve("basin", "P", 52, depths=[0, 5, 11]), [(0, 0), (5, 19000), (11, 39800)])
+        self.assertEqual(sagecruet.curve("basin", "P", 39, mode="mix", depths=[10]), [(10, 37480)])
+
+    @needs_answers
+    def test_by_itself_a_curve_has_21_points(self):
+        points = sagecruet.curve("swale", "N")
+        self.assertEqual((len(points), points[0], points[-1]), (21, (0, 0), (200, 23000)))
+
+    @needs_answers
+    def test_a_refused_curve_says_so(self):
+        self.assertRaisesRegex(ValueError, "refused 7: The soil is too slow for the practice.", sagecruet.curve, "trench", "P")
+        self.assertRaisesRegex(ValueError, "refused 6: The rate is out of range.", sagecruet.curve, "sand", "P", 17)
+        self.assertRaisesRegex(ValueError, "refused 1: The job cannot be read.", sagecruet.curve, "pond", "P")
+
+    def test_wrong_depths(self):
+        self.assertRaisesRegex(ValueError, "depth: not from 0 to 200", sagecruet.curve, "sand", "P", depths=[201])
+        self.assertRaisesRegex(ValueError, "depth: not from 0 to 200", sagecruet.curve, "sand", "P", depths=[-1])
+        self.assertRaisesRegex(TypeError, "depth: expected a whole", sagecruet.curve, "sand", "P", depths=[0.5])
+        self.assertRaisesRegex(TypeError, "depths: expected a list", sagecruet.curve, "sand", "P", depths=100)
+
+    @needs_repository
+    def test_rates_are_those_of_the_tables(self):
+        text = (ROOT / "crates" / "published" / "specs" / "Tables.antt").read_text(encoding="utf-8")
+        for name in ("trenchP", "trenchN", "basinP", "basinN"):
+            listed = re.search(rf"\((.*) ∷ \[\], {name}\)", text)[1]
+            self.assertEqual(tuple(int(rate) for rate in listed.split(" ∷ ")), sagecruet.RATES)
+
+    def test_without_matplotlib_plot_says_what_it_needs(self):
+        with mock.patch.dict(sys.modules, {"matplotlib": None}):
+            self.assertRaisesRegex(ImportError, "plot needs matplotlib .*docs/curves", sagecruet.plot, "wetland", "N")
+
+    @needs_answers
+    def test_a_plot_without_rates_takes_those_of_the_tables(self):
+        there = mock.MagicMock()
+        for practice, rates in (("trench", (17, 27, 52, 102, 241, 827)), ("swale", (0,))):
+            with mock.patch.dict(sys.modules, {"matplotlib": there, "matplotlib.pyplot": there.pyplot}):
+                with mock.patch.object(sagecruet, "curve", return_value=[(0, 0), (200, 99000)]) as curve:
+                    sagecruet.plot(practice, "N", axes=there.axes)
+            self.assertEqual(curve.call_args_list, [mock.call(practice, "N", rate, "step") for rate in rates])
+        there.axes.plot.assert_called_with([0.0, 2.0], [0.0, 99.0], label="swale")
+        self.assertEqual(there.axes.plot.call_count, 7)
+
+    @needs_answers
+    @unittest.skipIf(importlib.util.find_spec("matplotlib") is None, "matplotlib is not installed")
+    def test_a_plot(self):
+        import matplotlib
+        matplotlib.use("Agg")
+        axes = sagecruet.plot("wetland", "N")
+        self.assertEqual([line.get_label() for line in axes.lines], ["wetland"])
+        self.assertEqual((list(axes.lines[0].get_xdata())[4], list(axes.lines[0].get_ydata())[4]), (0.4, 48.0))
+        self.assertIs(sagecruet.plot("trench", "P", rates=[17, 827], axes=axes), axes)
+        self.assertEqual([line.get_label() for line in axes.lines], ["wetland", "0.17 in/hr", "8.27 in/hr"])
+        with tempfile.TemporaryDirectory() as folder:
+            axes.figure.savefig(Path(folder) / "curve.png")
+            self.assertGreater((Path(folder) / "curve.png").stat().st_size, 1000)
+        matplotlib.pyplot.close("all")
+
+
+@contextlib.contextmanager
+def elsewhere(files=(), **environment):
+    """A copy of the module in a folder of its own, in bindings/python, with other files about it: (name, text) each, executable.
+    No setting of the environment but those that are given."""
+    with tempfile.TemporaryDirectory() as folder:
+        folder = Path(folder).resolve()
+        copy = folder / "bindings" / "python" / "sagecruet.py"
+        copy.parent.mkdir(parents=True)
+        shutil.copy(HERE.parent / "sagecruet.py", copy)
+        for name, text in files:
+            (folder / name).parent.mkdir(parents=True, exist_ok=True)
+            (folder / name).write_text(text)
+            (folder / name).chmod(0o755)
+        spec = importlib.util.spec_from_file_location("sagecruet_elsewhere", copy)
+        module = importlib.util.module_from_spec(spec)
+        kept = {key: value for key, value in os.environ.items() if not key.startswith("SAGECRUET_")}
+        with mock.patch.dict(os.environ, {**kept, **environment}, clear=True):
+            spec.loader.exec_module(module)
+            yield module, folder
+
+
+# A program that answers one job, says how it was called, and is no calculator.
+STUB = """#!/bin/sh
+[ "$*" = "-q" ] || exit 2
+read -r first
+[ "$first" = practice=basin ] || exit 2
+printf 'answer=0\\nload=7\\ndepth=6\\ncredit=5\\nvolume=4\\nremoved=3\\n'
+"""
+
+
+class WhatIsThere(unittest.TestCase):
+    def machine(self, name):
+        return mock.patch("platform.machine", return_value=name)
+
+    def repository(self, run=STUB, **environment):
+        return elsewhere([("crates.txt", ""), ("run", run), ("target/bin/creditrun", "")], **environment)
+
+    def test_neither_library_nor_program(self):
+        with elsewhere() as (module, _):
+            self.assertIsNone(module.backend())
+            with self.machine("x86_64"), self.assertRaises(module.Unavailable) as caught:
+                module.answer(SIZE)
+            for words in ("make shared", "SAGECRUET_LIBRARY", "SAGECRUET_PROGRAM", "run -q"):
+                self.assertIn(words, str(caught.exception))
+            self.assertEqual(module.from_acres("10.13"), 1013)
+
+    def test_each_function_says_what_to_do(self):
+        with elsewhere() as (module, _):
+            calls = (
+                lambda: module.fault(SIZE), lambda: module.sheet_verdict(T), lambda: module.percent(T, 50, 40),
+                lambda: module.reading(0.5), lambda: module.answer(SIZE, T), lambda: module.answer_text(SIZE, T),
+            )
+            for number, call in enumerate(calls):
+                with self.subTest(call=number), self.machine("x86_64"):
+                    self.assertRaisesRegex(module.Unavailable, "`make shared` in the repository's folder", call)
+                with self.subTest(call=number), self.machine("aarch64"):
+                    self.assertRaisesRegex(module.Unavailable, "is for x86-64 and this processor is aarch64", call)
+            for call in (lambda: module.answer(SIZE), lambda: module.answer_text(SIZE), lambda: module.curve("sand", "P")):
+                self.assertRaisesRegex(module.Unavailable, "^no library: .* No program: ", call)
+
+    def test_a_program_that_is_not_built_is_not_built_silently(self):
+        with elsewhere([("crates.txt", ""), ("run", STUB)]) as (module, folder):
+            self.assertIsNone(module.backend())
+            message = re.escape(f"the program is not built; `./run jobs/sample.job` in {folder} proves and builds it")
+            self.assertRaisesRegex(module.Unavailable, message, module.answer, SIZE)
+
+    def test_the_library_that_is_no_library(self):
+        with elsewhere([("other.so", "no library")]) as (module, folder), self.machine("x86_64"):
+            for name, words in (("other.so", "other.so cannot be loaded: "), ("none.so", "there is no file .*none.so; ")):
+                with mock.patch.dict(os.environ, SAGECRUET_LIBRARY=str(folder / name)):
+                    self.assertRaisesRegex(module.Unavailable, words, module.reading, 0.5)
+
+    def test_the_run_of_the_repository_answers(self):
+        with self.repository() as (module, _):
+            self.assertEqual(module.backend(), "program")
+            self.assertEqual(module.answer(SIZE), {"answer": 0, "load": 7, "depth": 6, "credit": 5, "volume": 4, "removed": 3})
+            self.assertRaises(module.Unavailable, module.answer, SIZE, T)
+
+    def test_the_program_that_is_named_comes_first(self):
+        with self.repository(run="#!/bin/sh\nexit 2\n") as (module, folder):
+            named = folder / "a folder" / "mine"
+            named.parent.mkdir()
+            named.write_text(STUB)
+            named.chmod(0o755)
+            with mock.patch.dict(os.environ, SAGECRUET_PROGRAM=f"'{named}' -q"):
+                self.assertEqual(module.answer(SIZE)["load"], 7)
+
+    def test_a_refused_job_ends_with_1(self):
+        with self.repository(run="#!/bin/sh\nprintf 'answer=10\\nline=0\\n'\nexit 1\n") as (module, _):
+            self.assertEqual(module.answer(SIZE), {"answer": 10, "line": 0})
+
+    def test_what_is_no_answer_is_no_answer(self):
+        granted = "answer=0\\nload=7\\ndepth=6\\ncredit=5\\nvolume=4\\nremoved=3\\n"
+        for run, words in (
+            ("exit 2", "status 2"),
+            (f"printf '{granted}'; exit 3", "status 3"),
+            ("echo answer=0", "status 0"),
+            (f"printf '{granted}more\\n'", "status 0"),
+            (f"printf '{granted}'; kill -9 $$", "status -9"),
+        ):
+            with self.subTest(run=run), self.repository(run=f"#!/bin/sh\n{run}\n") as (module, _):
+                self.assertRaisesRegex(module.Unavailable, f"gave no answer and ended with {words};", module.answer, SIZE)
+
+    def test_a_program_that_does_not_start(self):
+        for named, words in (("/nowhere/creditrun", "cannot be started"), ("'run -q", "SAGECRUET_PROGRAM is no command")):
+            with self.subTest(named=named), elsewhere(SAGECRUET_PROGRAM=named) as (module, _):
+                self.assertRaisesRegex(module.Unavailable, words, module.answer, SIZE)
+
+
+if __name__ == "__main__":
+    unittest.main()
