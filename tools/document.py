@@ -1,12 +1,37 @@
-"""The figures of source document 001, read off its text.
+#!/usr/bin/env python3
+"""The figures of document 001, read off its text.
 
-Every table is found by its heading and read cell by cell, so no figure is typed by hand. What comes back is in the
-project's whole units: hundredths of an inch, of an inch per hour and of a pound per acre and year, and thousandths of
-a percent. A table that has not the shape expected of it ends the run.
+    tools/document.py DOCUMENT    print every figure that the project takes from it
+
+The other scripts import this one. Every table is found by its heading and read cell by cell, so no figure is typed by
+hand. What comes back is in the project's whole units: hundredths of an inch, of an inch per hour and of a pound per acre
+and year, and thousandths of a percent. A table that has not the shape expected of it ends the run.
 """
 
+import argparse
 import re
+import signal
+import sys
 from pathlib import Path
+
+# What --help says of the argument DOCUMENT.
+FORM = """\
+DOCUMENT is a text file in UTF-8 with the words of document 001, the EPA's Attachment 3 to Appendix F of the New Hampshire
+MS4 permit. EPA publishes a PDF; any tool may turn it into text, as long as its tables come out in this form:
+
+  heading     a line of its own without a tab: `Table 3-7: Infiltration Trench (IR = 0.27 in/hr) ..`. A blank after the
+              hyphen, a full stop for the colon and `**` in front are taken too. A line with a tab, as in the list of
+              tables, is no heading. The table goes on to the next heading.
+  row         one line, with a tab between each two cells; lines that are no row of the table are passed over
+  3-1, 3-2    cells: land use, cover, pounds per acre and year, anything. An empty land use is the one above. A land use
+              holds `(COM)`, `(IND)`, `(HDR)`, `(MDR)`, `Low Density`, `(HWY)`, `(FOR)`, `(OPEN)` or `(AG)`, or is
+              `All Residential`; a soil's row ends its first cell with `HSG A`, `B`, `C`, `C/D` or `D`. The cover holds
+              `impervious` or does not; a rate that starts with `See` is passed over.
+  3-4         ten rows of six cells: rain as `0.80`, then the runoff on A, B, C, C/D and D, in inches
+  3-6 to 3-25 but 3-22: a row whose first cell starts with `BMP Capacity` and has eight depths behind it; and one each
+              of `Phosphorus Load Reduction` and `Nitrogen Load Reduction`, with or without `Cumulative` in front, that
+              has eight percents, as `78%`. The rate stands in the heading, as `0.27 in/hr`; without it there is none.
+"""
 
 NUTRIENTS = ("P", "N")
 LAND_USES = ("com", "ind", "hdr", "mdr", "ldr", "hwy", "for", "open", "ag")
@@ -26,6 +51,13 @@ PRACTICES = (
 )
 
 
+def words_for(doc):
+    """A reader of a script's words, whose --help prints the script's own text and the form of a document. A script whose output
+    is cut off, as by `head`, ends without a word."""
+    signal.signal(signal.SIGPIPE, signal.SIG_DFL)
+    return argparse.ArgumentParser(description=doc, epilog=FORM, formatter_class=argparse.RawDescriptionHelpFormatter)
+
+
 def scaled(word, places):
     """A printed decimal as a whole number of the unit that has so many decimal places."""
     found = re.fullmatch(r"(\d+)(?:\.(\d+))?", word.strip())
@@ -36,7 +68,10 @@ def scaled(word, places):
 
 class Document:
     def __init__(self, path):
-        self.lines = Path(path).read_text(encoding="utf-8").splitlines()
+        try:
+            self.lines = Path(path).read_text(encoding="utf-8").splitlines()
+        except (OSError, UnicodeDecodeError) as fault:
+            raise SystemExit(f"the document cannot be read: {fault}")
 
     def table(self, number):
         """The heading of a table, and the rows under it as lists of cells. A line of the contents has its page after
@@ -109,3 +144,31 @@ class Document:
         if any(c[1] != depths for c in curves):
             raise SystemExit(f"the tables of {PRACTICES[practice][0]} differ in their depths")
         return depths, [c[0] for c in curves], [p for c in curves for p in c[2][nutrient]]
+
+
+def figures(document):
+    """Every figure that the project takes, a line each with the table it stands in."""
+    for number, nutrient in ((1, "P"), (2, "N")):
+        yield f"Table 3-{number}, {nutrient}, hundredths of a pound per acre and year:"
+        rates = document.export_rates(nutrient)
+        names = [use + " impervious" for use in LAND_USES] + ["for pervious", "ag pervious"] + ["other pervious on " + soil for soil in COLUMNS]
+        yield from (f"    {name} {rate}" for name, rate in zip(names, rates))
+    yield "Table 3-4, hundredths of an inch: rain, then the runoff on " + ", ".join(COLUMNS)
+    yield from ("    " + " ".join(map(str, row)) for row in document.runoff_rows())
+    for name, tables in PRACTICES:
+        for number in tables:
+            rate, depths, percents = document.curve(number)
+            yield f"Table 3-{number}, {name}, rate {rate}, hundredths of an inch and thousandths of a percent:"
+            yield "    depths " + " ".join(map(str, depths))
+            yield from (f"    {nutrient} " + " ".join(map(str, percents[nutrient])) for nutrient in NUTRIENTS)
+
+
+def main():
+    words = words_for(__doc__)
+    words.add_argument("DOCUMENT", help="document 001 as text")
+    for line in figures(Document(words.parse_args().DOCUMENT)):
+        print(line)
+
+
+if __name__ == "__main__":
+    sys.exit(main())

@@ -32,11 +32,10 @@ ANSWER is the number given back, 0 on every line but one; the values beside a re
         site with the printed percent for the target
 """
 
-import sys
 from fractions import Fraction
 from math import floor
 
-from document import COLUMNS, LAND_USES, NUTRIENTS, PRACTICES, Document
+from document import COLUMNS, LAND_USES, NUTRIENTS, PRACTICES, Document, words_for
 
 GRID = range(201)
 SOILS = COLUMNS + ("U",)
@@ -157,7 +156,7 @@ def output(document):
 
 
 if __name__ == "__main__":
-    if len(sys.argv) != 2:
-        raise SystemExit(__doc__)
-    for words in output(Document(sys.argv[1])):
+    asked = words_for(__doc__)
+    asked.add_argument("DOCUMENT", help="document 001 as text")
+    for words in output(Document(asked.parse_args().DOCUMENT)):
         print(*words)

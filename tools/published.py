@@ -8,9 +8,7 @@
 A column that breaks a sheet rule is left out: its practice keeps its other rates, and has none where none remains.
 """
 
-import sys
-
-from document import NUTRIENTS, PRACTICES, Document
+from document import NUTRIENTS, PRACTICES, Document, words_for
 
 
 def fits(percents):
@@ -48,7 +46,7 @@ def constant(name, kind, values):
 
 def specs(document):
     out = [
-        '-- 01, "Practices covered": the columns of Tables 3-6 to 3-25 but 3-22. Made by tools/published.py from source document 001.',
+        '-- Rules, "Practices covered": the columns of Tables 3-6 to 3-25 but 3-22. Made by tools/published.py from source document 001.',
         "-- Assumes nothing.",
         "use Prim.Native.Nat.{ℕ}",
         "use mathlib.Core.List.{List, [], _∷_}",
@@ -109,6 +107,8 @@ def docs(document):
 
 if __name__ == "__main__":
     made = {"specs": specs, "source": source, "docs": docs}
-    if len(sys.argv) != 3 or sys.argv[2] not in made:
-        raise SystemExit(__doc__)
-    print("\n".join(made[sys.argv[2]](Document(sys.argv[1]))))
+    asked = words_for(__doc__)
+    asked.add_argument("DOCUMENT", help="document 001 as text")
+    asked.add_argument("WHAT", choices=made, help="what is to be written")
+    words = asked.parse_args()
+    print("\n".join(made[words.WHAT](Document(words.DOCUMENT))))

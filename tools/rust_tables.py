@@ -4,9 +4,7 @@
     tools/rust_tables.py DOCUMENT > bench/src/tables.rs
 """
 
-import sys
-
-from document import LAND_USES, NUTRIENTS, PRACTICES, Document
+from document import LAND_USES, NUTRIENTS, PRACTICES, Document, words_for
 
 
 def numbers(values):
@@ -49,6 +47,6 @@ def rust(document):
 
 
 if __name__ == "__main__":
-    if len(sys.argv) != 2:
-        raise SystemExit(__doc__)
-    print(rust(Document(sys.argv[1])))
+    asked = words_for(__doc__)
+    asked.add_argument("DOCUMENT", help="document 001 as text")
+    print(rust(Document(asked.parse_args().DOCUMENT)))

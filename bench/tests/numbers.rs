@@ -1,4 +1,4 @@
-//! The rules' own numbers, held by the Rust code.
+//! Rules, "Numbers to hold on to": the numbers that are told there, held by the Rust code.
 
 use bench::{reference, Part, Sheet, Value, Verdict};
 

@@ -12,7 +12,7 @@ use bench::generate::{LAND_USES, SOILS};
 use bench::linked;
 use bench::reference;
 
-/// The job text of a kind: the rules' own load job of three sub-areas, or a credit or a sizing on 32 sub-areas of every
+/// The job text of a kind: the load job of jobs/sample.job, or a credit or a sizing on 32 sub-areas of every
 /// land use and soil.
 fn text(kind: &str) -> String {
     if kind == "load" {
