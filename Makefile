@@ -8,13 +8,18 @@
 #   make example     builds and runs examples/c/example.c
 #   make help        prints these lines
 #
+#   make -C examples/c test     holds what the example prints to what it must print
+#   make -C examples/c clean    removes what was built there; removing target/ removes all else that was built
+#   tests/run c                 tests the library, the header, the Makefiles and the examples
+#
 # The library is for x86-64 Linux. On another processor `make shared` needs a compiler for x86-64: on Debian these are
 # the packages gcc-x86-64-linux-gnu and libc6-dev-amd64-cross.
 
 PREFIX ?= /usr/local
-RT = rt
+packages = gcc libc6-dev
 ifneq ($(shell uname -m),x86_64)
 CC = x86_64-linux-gnu-gcc
+packages = gcc-x86-64-linux-gnu libc6-dev-amd64-cross
 endif
 
 archive = target/staticlib/libsagecruet.a
@@ -23,18 +28,26 @@ sources := $(shell find crates.txt crates/*/src crates/*/specs crates/*/proofs -
 prefix = $(abspath $(PREFIX))
 place = $(DESTDIR)$(prefix)
 
-# One build at a time in this folder: ./run takes the same lock.
+# A space would part the path in make and in the flags of pkg-config; these have a meaning to the shell, sed or pkg-config.
+odd := ' " ` \ | & $$ \#
+ifneq ($(filter install uninstall,$(MAKECMDGOALS)),)
+ifneq ($(words $(prefix)):$(strip $(foreach letter,$(odd),$(findstring $(letter),$(prefix)))),1:)
+$(error PREFIX has to be one path without spaces and without any of $(odd), and it is "$(PREFIX)")
+endif
+endif
+
+# Another kit than the one of kit.txt is said, and tried. One build at a time in this folder: ./run takes the same lock.
 $(archive): $(sources)
-	@command -v $(RT) >/dev/null || { \
-	    echo "make: the command $(RT) is not there: install the Rattle kit, and put its folder bin on the PATH" >&2; \
-	    exit 1; }
+	@tools/kit || [ $$? -eq 1 ]
 	@echo "make: the library is proved and built first, which takes some minutes" >&2
-	flock . $(RT) staticlib sagecruet
+	flock . rt staticlib sagecruet
 	@touch $@
 
 shared: $(shared)
 
 $(shared): $(archive)
+	@command -v $(firstword $(CC)) >/dev/null || { \
+	    echo "make: the command $(firstword $(CC)) is not there; on Debian it comes with $(packages)" >&2; exit 1; }
 	$(CC) -shared -Wl,-soname,libsagecruet.so -o $@ -Wl,--whole-archive $(archive) -Wl,--no-whole-archive
 
 # A shared object that was made from an older archive is made anew.

@@ -24,18 +24,33 @@
  *     area=com,per,C,185
  *     area=for,per,C,89
  *
- * The order is fixed, each line ends with a line feed, the last one too, and there are 1 to 32 lines `area`. The
- * repository's README.md, "A job and its answer", has the words that each line may say. The count of a job is that of
- * its bytes, without the zero byte at the end of a C string.
+ * The order is fixed, each line ends with a line feed, the last one too, and there are 1 to 32 lines `area`. The count
+ * of a job is that of its bytes, without the zero byte at the end of a C string. What may stand behind the sign `=`:
+ *
+ *   practice   trench, basin, biofilter, wetland, isr, sand, wetpond, drypond or swale
+ *   nutrient   P or N
+ *   mode       step or mix: the two ways to take the rate, `mix` false and true at sagecruet_percent
+ *   rate       NUMBER: the site's infiltration rate for trench and basin, 0 for the others, whose tables have none
+ *   task       load, credit or size
+ *   amount     NUMBER: 0 for load, the volume of the practice for credit, the wanted percent for size
+ *   area       USE,COVER,SOIL,NUMBER: one sub-area, with commas and without spaces
+ *     USE      com, ind, hdr, mdr, ldr, hwy, for, open or ag: commercial, industrial, residential of high, medium and
+ *              low density, highway, forest, open land, agriculture
+ *     COVER    imp or per: impervious and directly connected, or pervious
+ *     SOIL     A, B, C, CD, D, U or -: the last under imp, the others under per; U is not known and counts as C
+ *     NUMBER   1 to 14 digits with no point, comma, sign or leading zero
+ *
+ * The repository's README.md says which practice of the document each word stands for. With task load the practice, mode
+ * and rate have to read and have no effect; the limit of a rate below holds for credit and size.
  *
  * Units, all whole numbers:
  *
- *   area           hundredths of an acre                   1 to 1,000,000, and so the total of a site
- *   depth          hundredths of an inch                   0 to 200
- *   rate           hundredths of an inch per hour          0 to 10,000
- *   volume         hundred-thousandths of a cubic foot     0 to 10^13
- *   load, removed  ten-thousandths of a pound per year     0 to 10^13
- *   percent        thousandths of a percent                0 to 100,000
+ *   area             hundredths of an acre                   1 to 1,000,000, and so the total of a site
+ *   depth            hundredths of an inch                   0 to 200
+ *   rate             hundredths of an inch per hour          0 to 10,000
+ *   volume           hundred-thousandths of a cubic foot     0 to 10^13
+ *   load, removed    ten-thousandths of a pound per year     0 to 10^13
+ *   percent, credit  thousandths of a percent                0 to 100,000
  */
 #ifndef SAGECRUET_H
 #define SAGECRUET_H
@@ -53,6 +68,9 @@ extern "C" {
 
 /* The bytes of the longest job text; a longer one is refused 1. */
 #define SAGECRUET_LONGEST_JOB 4096
+
+/* The most lines `area` of a job, which are the sub-areas of its site. */
+#define SAGECRUET_MOST_AREAS 32
 
 /* The most depths and the most rates of a sheet. */
 #define SAGECRUET_MOST_DEPTHS 16
@@ -114,11 +132,17 @@ struct sagecruet_value {
  *     credit=0
  *     volume=0
  *     removed=0
- */
+ *
+ * They are the load of the site; the depth that was used; the percent at that depth; the volume, which is the amount of
+ * a credit and the design volume of a size; and the load that is removed. A load job has 0 from `depth` on.
+ *
+ * `line` counts from 1 and is the line of the job in which a 1, 2, 3 or 14 arose; a missing line has the number that it
+ * would have. It is 0 beside every other refusal, and where the text is too long. */
 size_t sagecruet_answer(const uint8_t *job, size_t job_len, uint8_t *text, size_t text_len);
 
 /* The same with a lent sheet in the place of the tables: the job's practice has to read, and is not used. The sheet is
- * tested when the task is credit or size; one that breaks a rule is refused 5, where a practice would be refused 4. */
+ * tested when the task is credit or size; one that breaks a rule is refused 5, where a practice would be refused 4. Which
+ * list and place it is, the answer does not say: sagecruet_sheet does. */
 size_t sagecruet_answer_on(const uint8_t *job, size_t job_len,
                            const uint64_t *depths, size_t depths_len,
                            const uint64_t *rates, size_t rates_len,
@@ -127,7 +151,7 @@ size_t sagecruet_answer_on(const uint8_t *job, size_t job_len,
 
 /* The offending line of a job text that is refused 1, without its line feed: the line as it stands in the text; an
  * empty part at the end where a line is missing; an empty part at the start where the text is too long. A text that
- * is not refused 1 has an empty part at its end. */
+ * is not refused 1 has an empty part at its end, one that is refused 2, 3 or 14 too: its line is found by its number. */
 struct sagecruet_part sagecruet_fault(const uint8_t *job, size_t job_len);
 
 /* Tests a sheet: 1 to 16 depths, strictly rising, from 1 to 200; 1 to 8 rates, strictly rising, from 1 to 10,000, or
@@ -136,16 +160,25 @@ struct sagecruet_verdict sagecruet_sheet(const uint64_t *depths, size_t depths_l
                                          const uint64_t *rates, size_t rates_len,
                                          const uint64_t *percents, size_t percents_len);
 
-/* The percent of a sheet at a rate and a depth. With `mix` false it is on the curve of the fastest rate that is not
- * above `rate`; with `mix` true it is on the straight line between the curves of the two neighbouring rates. Rounded
- * down once, at the end. Refusals, tried in this order: 5, 6, 7, 9. */
+/* The percent of a sheet at a rate and a depth. The curve of a rate is a straight line from depth 0 and percent 0 to the
+ * first depth, and from each depth to the next; beyond the last depth it keeps the last percent. With `mix` false the
+ * percent is on the curve of the fastest rate that is not above `rate`; with `mix` true it is on the straight line
+ * between the curves of the two rates beside it, and from the fastest rate on it is on that one's curve alone. It is
+ * rounded down once, at the end. Refusals, tried in this order:
+ *
+ *   5   the sheet breaks a rule; sagecruet_sheet tells the list and the place
+ *   6   the rate is above 10,000, or it is not 0 on a sheet with the single rate 0
+ *   7   the rate is below the slowest of the sheet
+ *   9   the depth is above 200 */
 struct sagecruet_value sagecruet_percent(const uint64_t *depths, size_t depths_len,
                                          const uint64_t *rates, size_t rates_len,
                                          const uint64_t *percents, size_t percents_len,
                                          bool mix, uint64_t rate, uint64_t depth);
 
 /* The rate of a probe reading, which is in millimetres per hour with `millimetres` true and in inches per hour with it
- * false: its exact value in hundredths of an inch per hour, rounded down. Refusals: 11, 12. */
+ * false: its exact value in hundredths of an inch per hour, rounded down. So 0.29f inches, a float a little below 0.29,
+ * give 28, and 25.4f millimetres give 99. Refused 11 where it is not a number, infinite or below zero (-0.0 is 0), and
+ * 12 where it is above 10,000 once it is rounded. */
 struct sagecruet_value sagecruet_reading(bool millimetres, float reading);
 
 #ifdef __cplusplus

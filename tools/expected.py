@@ -1,5 +1,5 @@
 #!/usr/bin/env python3
-"""Makes the stored output of the program `vectors` from source document 001 and the rules, not using the library.
+"""Makes the stored output of the program `vectors` from document 001 and the rules, not using the library.
 
     tools/expected.py DOCUMENT > crates/vectors/stdout
 

@@ -1,5 +1,5 @@
 #!/usr/bin/env python3
-"""Writes the published sheets of the crate `published` from source document 001.
+"""Writes the published sheets of the crate `published` from document 001.
 
     tools/published.py DOCUMENT specs  > crates/published/specs/Tables.antt
     tools/published.py DOCUMENT source > crates/published/src/tables.rt
@@ -46,7 +46,7 @@ def constant(name, kind, values):
 
 def specs(document):
     out = [
-        '-- Rules, "Practices covered": the columns of Tables 3-6 to 3-25 but 3-22. Made by tools/published.py from source document 001.',
+        '-- Rules, "Practices covered": the columns of Tables 3-6 to 3-25 but 3-22. Made by tools/published.py from document 001.',
         "-- Assumes nothing.",
         "use Prim.Native.Nat.{ℕ}",
         "use mathlib.Core.List.{List, [], _∷_}",
@@ -81,7 +81,7 @@ def source(document):
             counts.append(len(kept))
             numbers += [rate for _, rate, _ in kept] + [p for _, _, percents in kept for p in percents]
     return [
-        "// Made by tools/published.py from source document 001.",
+        "// Made by tools/published.py from document 001.",
         "",
         "// The depths of every table; then, for P and for N, each practice's rates and its percents, rate by rate.",
         *constant("SHEETS", "u64", numbers),

@@ -1,5 +1,5 @@
 #!/usr/bin/env python3
-"""Writes bench/src/tables.rs, the tables of the Rust implementation, from source document 001.
+"""Writes bench/src/tables.rs, the tables of the Rust implementation, from document 001.
 
     tools/rust_tables.py DOCUMENT > bench/src/tables.rs
 """
@@ -13,7 +13,7 @@ def numbers(values):
 
 def rust(document):
     out = [
-        "// Made by tools/rust_tables.py from source document 001. Do not edit.",
+        "// Made by tools/rust_tables.py from document 001. Do not edit.",
         "",
         "use crate::Sheet;",
         "",

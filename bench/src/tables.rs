@@ -1,4 +1,4 @@
-// Made by tools/rust_tables.py from source document 001. Do not edit.
+// Made by tools/rust_tables.py from document 001. Do not edit.
 
 use crate::Sheet;
 

@@ -22,12 +22,14 @@ Unavailable, which says why and what to do. backend() says which of the two is u
 
 import ctypes
 import functools
+import math
 import numbers
 import operator
 import os
 import platform
 import re
 import shlex
+import shutil
 import subprocess
 from decimal import Decimal, InvalidOperation
 from pathlib import Path
@@ -73,17 +75,19 @@ class Sheet(NamedTuple):
 # ---- Kinds of arguments
 
 def _refuse_kind(what, expected, value):
-    raise TypeError(f"{what}: expected {expected}, not {type(value).__name__}: {value!r}")
+    raise TypeError(f"{what}: expected {expected}, not {type(value).__name__}: {value!r}") from None
 
 
-def _whole(what, value):
-    """A whole number, whatever its size. True and False are none; what counts as a whole number elsewhere (numpy's) is."""
+def _whole(what, value, unit=None):
+    """A whole number, whatever its size. True and False are none; what counts as a whole number elsewhere (numpy's) is. The
+    unit is that of the natural value, for the words of a refusal."""
+    expected = f"a whole number of {_UNITS[unit][1]} (see from_{unit})" if unit else "a whole number"
     if isinstance(value, bool):
-        _refuse_kind(what, "a whole number", value)
+        _refuse_kind(what, expected, value)
     try:
         return operator.index(value)
     except TypeError:
-        _refuse_kind(what, "a whole number", value)
+        _refuse_kind(what, expected, value)
 
 
 def _word(what, value):
@@ -102,8 +106,8 @@ def _flag(what, value):
 
 
 def _several(what, expected, values):
-    """Anything that can be gone through but a text or a dictionary, as a list."""
-    if isinstance(values, (str, bytes, dict)) or not hasattr(values, "__iter__"):
+    """Anything that can be gone through, as a list; but no text, no dictionary, and no set, which has no order."""
+    if isinstance(values, (str, bytes, dict, set, frozenset)) or not hasattr(values, "__iter__"):
         _refuse_kind(what, expected, values)
     return list(values)
 
@@ -128,18 +132,28 @@ _UNITS = {
 
 _PARTS = {"load": "pounds", "depth": "inches", "credit": "percent", "volume": "cubic_feet", "removed": "pounds"}
 
+_AMOUNTS = {"credit": "cubic_feet", "size": "percent"}  # what the amount of a task counts
+
+# A number as a string: a sign, ASCII digits with a point, an exponent. Decimal alone takes underscores, spaces and more digits.
+_NUMBER = re.compile(r"[+-]?(?:[0-9]+\.?[0-9]*|\.[0-9]+)(?:[eE][+-]?[0-9]+)?")
+
 
 def _decimal(unit, value):
     """A value in natural units as a Decimal, as exact as it was given. A float is refused: 10.13 as a float is not 10.13."""
     if isinstance(value, float):
-        raise TypeError(f'{unit}: a float is not exact; write it as a string, "{value!r}", or as a Decimal')
+        written = float.__repr__(value)  # and not numpy's, which has more than the number
+        if not math.isfinite(value):
+            raise ValueError(f"{unit}: not a number: {written}")
+        raise TypeError(f'{unit}: a float is not exact; write it as a string, "{written}", or as a Decimal')
     if isinstance(value, Decimal):
         return value
     if isinstance(value, str):
         try:
-            return Decimal(value)
-        except InvalidOperation:
-            raise ValueError(f"{unit}: not a number: {value!r}") from None
+            if _NUMBER.fullmatch(value):
+                return Decimal(value)
+        except InvalidOperation:  # an exponent past all bounds
+            pass
+        raise ValueError(f"{unit}: not a number: {value!r}")
     if isinstance(value, bool) or not isinstance(value, numbers.Integral):
         _refuse_kind(unit, "a string, a whole number or a Decimal", value)
     return Decimal(operator.index(value))
@@ -313,12 +327,20 @@ def _library():
         try:
             return _loaded(place)
         except (OSError, AttributeError) as error:
-            why = f"{place} cannot be loaded: {error}" if Path(place).exists() else f"there is no file {place}"
+            why = f"the library cannot be loaded: {error}"
     if machine not in ("x86_64", "AMD64"):
-        raise Unavailable(f"the library is for x86-64 and this processor is {machine}; here answer, answer_text, curve and plot "
-                          "work, on the published tables, by the program creditrun")
-    raise Unavailable(f"{why}; `make shared` in the repository's folder writes target/staticlib/libsagecruet.so, and "
-                      "SAGECRUET_LIBRARY can name another place")
+        raise Unavailable(f"the library is for x86-64 and this processor is {machine}{_instead()}")
+    raise Unavailable(f"{why}; `make shared` in the repository's folder, FOLDER, writes it, and SAGECRUET_LIBRARY says where it "
+                      "is: FOLDER/target/staticlib/libsagecruet.so")
+
+
+def _instead():
+    """What can be done without the library, where the program is there."""
+    try:
+        _program()
+    except Unavailable:
+        return ""
+    return "; here answer, answer_text, curve and plot work, on the published tables, by the program creditrun"
 
 
 def _program():
@@ -337,11 +359,14 @@ def _program():
 
 
 def _command(named):
-    """A command as a shell would part it."""
+    """A command in words, parted at spaces outside quotes, whose first is there to be started."""
     try:
-        return shlex.split(named)
+        words = shlex.split(named)
     except ValueError as error:
         raise Unavailable(f"SAGECRUET_PROGRAM is no command: {error}: {named!r}") from None
+    if shutil.which(words[0]) is None:
+        raise Unavailable(f"SAGECRUET_PROGRAM names a command that is not there, or may not be started: {words[0]!r}")
+    return words
 
 
 def _found():
@@ -375,8 +400,8 @@ def _by_program(command, job):
     except OSError as error:
         raise Unavailable(f"the command {named} cannot be started: {error}") from None
     if done.returncode not in (0, 1) or not _ANSWER.fullmatch(done.stdout):
-        raise Unavailable(f"the command {named} gave no answer and ended with status {done.returncode}; what it said is on "
-                          "standard error")
+        raise Unavailable(f"the command {named} gave no answer and ended with status {done.returncode}; what it said went to "
+                          "standard error (in a notebook: the terminal where the server was started)")
     return done.stdout
 
 
@@ -399,36 +424,38 @@ def job(practice, nutrient, mode, rate, task, amount, areas):
         f"practice={_word('practice', practice)}",
         f"nutrient={_word('nutrient', nutrient)}",
         f"mode={_word('mode', mode)}",
-        f"rate={_whole('rate', rate)}",
+        f"rate={_whole('rate', rate, 'inches_per_hour')}",
         f"task={_word('task', task)}",
-        f"amount={_whole('amount', amount)}",
+        f"amount={_whole('amount', amount, _AMOUNTS.get(task))}",
     ]
     for place, area in enumerate(_several("areas", "a list of (use, cover, soil, area)", areas)):
-        what = f"areas[{place}]"
-        if not isinstance(area, (tuple, list)) or len(area) != 4:
-            _refuse_kind(what, "(use, cover, soil, area)", area)
-        words = [_word(what, word) for word in area[:3]]
-        lines.append("area=" + ",".join(words + [str(_whole(what, area[3]))]))
+        what, expected = f"areas[{place}]", "(use, cover, soil, area)"
+        row = _several(what, expected, area)
+        if len(row) != 4:
+            _refuse_kind(what, expected, area)
+        words = [_word(what, word) for word in row[:3]]
+        lines.append("area=" + ",".join(words + [str(_whole(what, row[3], "acres"))]))
     return "".join(line + "\n" for line in lines)
 
 
 def _lists(sheet):
     """A sheet as the library takes it: for each list a pointer and a count. The memory behind a list has one element more,
     so that no pointer is null."""
-    if not isinstance(sheet, (tuple, list)) or len(sheet) != 3:
-        _refuse_kind("sheet", "three lists: depths, rates and percents", sheet)
+    expected = "three lists: depths, rates and percents"
+    lists = _several("sheet", expected, sheet)
+    if len(lists) != 3:
+        _refuse_kind("sheet", expected, sheet)
     arguments = []
-    for what, values in zip(Sheet._fields, sheet):
-        if not isinstance(values, (tuple, list)):
-            _refuse_kind(f"sheet: {what}", "a list of whole numbers", values)
-        values = [_unsigned(f"sheet: {what}", value) for value in values]
+    for name, unit, values in zip(Sheet._fields, ("inches", "inches_per_hour", "percent"), lists):
+        what = f"sheet: {name}"
+        values = [_unsigned(what, value, unit) for value in _several(what, "a list of whole numbers", values)]
         arguments += [(ctypes.c_uint64 * (len(values) + 1))(*values), len(values)]
     return arguments
 
 
-def _unsigned(what, value):
+def _unsigned(what, value, unit=None):
     """A whole number that the library can be handed as it is."""
-    number = _whole(what, value)
+    number = _whole(what, value, unit)
     if not 0 <= number < 2**64:
         raise ValueError(f"{what}: not from 0 to 2**64 - 1: {value!r}")
     return number
@@ -475,8 +502,8 @@ def fault(job):
 
 
 def sheet_verdict(sheet):
-    """The test of a sheet: (0, 0, 0), or 5 with the list (1 depths, 2 rates, 3 percents) and the offending index in it.
-    Needs the library.
+    """The test of a sheet: (0, 0, 0), or 5 with the list (1 depths, 2 rates, 3 percents) and the offending index in it, from
+    0; or (5, 0, 0) where the lengths of the lists do not go together. Needs the library.
 
     >>> sheet_verdict(Sheet([20, 60, 100], [25, 75], [20000, 50000, 70000, 40000, 35000, 80000]))
     (5, 3, 4)
@@ -492,22 +519,31 @@ def percent(sheet, rate, depth, mix=False):
     >>> percent(Sheet([20, 60, 100], [25, 75], [20000, 50000, 70000, 40000, 65000, 80000]), 50, 40, mix=True)
     (0, 43750)
     """
-    arguments = _lists(sheet) + [_flag("mix", mix), _unsigned("rate", rate), _unsigned("depth", depth)]
+    arguments = _lists(sheet) + [_flag("mix", mix), _unsigned("rate", rate, "inches_per_hour")]
+    arguments.append(_unsigned("depth", depth, "inches"))
     value = _library().sagecruet_percent(*arguments)
     return value.answer, value.value
 
 
 def reading(value, millimetres=False):
-    """(answer, rate) of a probe reading in inches or millimetres per hour, a float or a whole number. The reading is rounded
-    to a 32-bit float first, as a probe gives it. Needs the library.
+    """(answer, rate) of a probe reading in inches or millimetres per hour: a float, a whole number or a Fraction. The reading
+    is rounded to a 32-bit float first, as a probe gives it; what is too large for one is infinite, and refused 11. Needs the
+    library.
+
+    reading(0.52) is (0, 51), since the float that counts is just below 0.52 and is rounded down; a rate that is typed goes by
+    from_inches_per_hour("0.52").
 
     >>> reading(127.0, millimetres=True)
     (0, 500)
     """
     if isinstance(value, bool) or not isinstance(value, numbers.Real):
-        _refuse_kind("reading", "a float or a whole number", value)
-    value, millimetres = float(value), _flag("millimetres", millimetres)
-    result = _library().sagecruet_reading(millimetres, value)
+        _refuse_kind("reading", "a float, a whole number or a Fraction, in inches or millimetres per hour", value)
+    try:
+        number = float(value)
+    except OverflowError:
+        number = math.inf if value > 0 else -math.inf
+    millimetres = _flag("millimetres", millimetres)
+    result = _library().sagecruet_reading(millimetres, number)
     return result.answer, result.value
 
 
@@ -523,14 +559,22 @@ def curve(practice, nutrient, rate=0, mode="step", depths=range(0, 201, 10)):
     """
     points = []
     for depth in _several("depths", "a list of whole numbers", depths):
-        depth = _whole("depth", depth)
+        depth = _whole("depth", depth, "inches")
         if not 0 <= depth <= 200:
             raise ValueError(f"depth: not from 0 to 200 hundredths of an inch: {depth!r}")
-        given = answer(job(practice, nutrient, mode, rate, "credit", 121 * 300 * depth, [("com", "imp", "-", 1)]))
+        asked = job(practice, nutrient, mode, rate, "credit", 121 * 300 * depth, [("com", "imp", "-", 1)])
+        given = answer(asked)
         if given["answer"]:
-            raise ValueError(f"refused {given['answer']}: {REFUSALS[given['answer']]}")
+            raise ValueError(_refusal(asked, given))
         points.append((depth, given["credit"]))
     return points
+
+
+def _refusal(asked, given):
+    """A refusal in words, with the line of the job that it is about, if any."""
+    line = given["line"]
+    where = f", line {line} ({asked.splitlines()[line - 1]})" if line else ""
+    return f"refused {given['answer']}{where}: {REFUSALS[given['answer']]}"
 
 
 def plot(practice, nutrient, rates=None, mode="step", axes=None):
@@ -544,12 +588,16 @@ def plot(practice, nutrient, rates=None, mode="step", axes=None):
     if rates is None:
         ask = job(practice, nutrient, mode, 0, "credit", 0, [("com", "imp", "-", 1)])
         rates = RATES if answer(ask)["answer"] == 7 else (0,)
+    # All that can be refused comes before a figure is made.
+    curves = [(rate, curve(practice, nutrient, rate, mode)) for rate in _several("rates", "a list of whole numbers", rates)]
+    if not curves:
+        raise ValueError("rates: expected one at least")
     axes = pyplot.subplots()[1] if axes is None else axes
-    for rate in _several("rates", "a list of whole numbers", rates):
-        points = curve(practice, nutrient, rate, mode)
+    for rate, points in curves:
         label = f"{to_inches_per_hour(rate)} in/hr" if rate else practice
         axes.plot([depth / 100 for depth, _ in points], [credit / 1000 for _, credit in points], label=label)
-    axes.set(title=f"{practice}, {nutrient}", xlabel="depth, inches", ylabel="credit, percent", xlim=(0, 2), ylim=(0, 102))
+    axes.set(title=f"{practice}, {nutrient}" + (", mode mix" if mode == "mix" else ""), xlim=(0, 2), ylim=(0, 102),
+             xlabel="depth of runoff from impervious area, inches", ylabel="load removed, percent")
     axes.grid(True, alpha=0.3)
     axes.legend(loc="lower right")
     return axes

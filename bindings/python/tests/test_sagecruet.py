@@ -17,6 +17,7 @@ import sys
 import tempfile
 import unittest
 from decimal import Decimal
+from fractions import Fraction
 from pathlib import Path
 from unittest import mock
 
@@ -74,6 +75,8 @@ class Units(unittest.TestCase):
         self.assertEqual(sagecruet.from_acres("10.1300"), 1013)
         self.assertEqual(sagecruet.from_acres("0E+99999"), 0)
         self.assertEqual(sagecruet.from_acres("-0.0"), 0)
+        for written, whole in ((".5", 50), ("5.", 500), ("+5", 500), ("1e2", 10000), ("25E-2", 25)):
+            self.assertEqual(sagecruet.from_acres(written), whole)
         self.assertEqual(str(sagecruet.to_cubic_feet(0)), "0.00000")
         self.assertEqual(str(sagecruet.to_cubic_feet(1)), "0.00001")
 
@@ -82,6 +85,13 @@ class Units(unittest.TestCase):
             sagecruet.from_acres(10.13)
         with self.assertRaisesRegex(TypeError, "whole number, not float"):
             sagecruet.to_acres(1013.0)
+
+        class Shown(float):  # as numpy's are
+            def __repr__(self):
+                return "np.float64(10.13)"
+
+        with self.assertRaisesRegex(TypeError, 'write it as a string, "10.13", or'):
+            sagecruet.from_acres(Shown(10.13))
 
     def test_what_is_not_exact_is_refused_with_the_unit(self):
         for name, written, counted in (
@@ -98,7 +108,9 @@ class Units(unittest.TestCase):
                     getattr(sagecruet, "from_" + name)(value)
 
     def test_no_numbers_are_refused(self):
-        wrong = ["NaN", "Infinity", Decimal("NaN"), Decimal("sNaN"), Decimal("-Infinity"), "ten", "", "1,000", "10.13 acres"]
+        wrong = ["NaN", "Infinity", Decimal("NaN"), Decimal("sNaN"), Decimal("-Infinity"), float("nan"), float("-inf")]
+        wrong += ["ten", "", ".", "E5", "1.2.3", "1,000", "10.13 acres", "--1", "1E+99999999999999999999"]
+        wrong += ["1_0", " 1", "1 ", "1\n", "\u0661", "\uff11"]  # the last two: a one in other scripts
         for value in wrong:
             with self.subTest(value=value), self.assertRaisesRegex(ValueError, "acres: not a number"):
                 sagecruet.from_acres(value)
@@ -156,6 +168,27 @@ class JobTexts(unittest.TestCase):
         ):
             with self.subTest(name=name, wrong=wrong), self.assertRaisesRegex(TypeError, f"^{name}: expected "):
                 sagecruet.job(*good[:place], wrong, *good[place + 1:])
+
+    def test_a_number_of_a_wrong_kind_is_told_its_unit(self):
+        acres = r"hundredths of an acre \(see from_acres\)"
+        speed = r"hundredths of an inch per hour \(see from_inches_per_hour\)"
+        volume = r"hundred-thousandths of a cubic foot \(see from_cubic_feet\)"
+        share = r"thousandths of a percent \(see from_percent\)"
+        for task, rate, amount, area, words in (
+            ("size", 39, 70000, 2.57, rf"areas\[0\]: expected a whole number of {acres}, not float: 2.57"),
+            ("size", 0.39, 70000, 257, f"rate: expected a whole number of {speed}, not float: 0.39"),
+            ("size", 39, 0.7, 257, f"amount: expected a whole number of {share}, not float: 0.7"),
+            ("credit", 39, 3359.0, 257, f"amount: expected a whole number of {volume}, not float: 3359.0"),
+            ("load", 39, 0.0, 257, "amount: expected a whole number, not float: 0.0"),
+        ):
+            with self.subTest(words=words), self.assertRaisesRegex(TypeError, f"^{words}$"):
+                sagecruet.job("basin", "P", "step", rate, task, amount, [("com", "imp", "-", area)])
+
+    def test_rows_of_any_sequence(self):
+        for row in (("com", "imp", "-", 257), ["com", "imp", "-", 257], iter(("com", "imp", "-", 257))):
+            self.assertEqual(sagecruet.job("basin", "P", "step", 39, "size", 70000, iter([row])), SIZE)
+        self.assertRaisesRegex(TypeError, r"^areas\[0\]: expected \(use", sagecruet.job, "basin", "P", "step", 39, "size", 70000,
+                               [{"com", "imp", "-", 257}])
 
     def test_no_word_makes_a_line_or_a_value(self):
         good = ["basin", "P", "step", 39, "size", 70000, PAVED]
@@ -236,6 +269,10 @@ class WithTheLibrary(unittest.TestCase):
         self.assertEqual(sagecruet.percent(T, 50, 201), (9, 0))
         self.assertEqual(sagecruet.sheet_verdict((T.depths, T.rates, [20000, 50000, 70000, 40000, 35000, 80000])), (5, 3, 4))
         self.assertEqual(sagecruet.sheet_verdict(([], [], [])), (5, 0, 0))
+        self.assertEqual(sagecruet.sheet_verdict((T.depths, T.rates, T.percents[:5])), (5, 0, 0))
+        # 0.20, 0.60 and 1.00 in, at 10, 20 and 30 percent: half way between the first two is 15.
+        drawn = (range(20, 101, 40), (rate for rate in [0]), range(10000, 30001, 10000))
+        self.assertEqual(sagecruet.percent(iter(drawn), 0, 40), (0, 15000))
 
     @needs_library
     def test_a_job_on_a_lent_sheet(self):
@@ -251,6 +288,8 @@ class WithTheLibrary(unittest.TestCase):
         self.assertEqual([sagecruet.reading(value) for value in (0.25, 0.5, 5, -0.0)], [(0, 25), (0, 50), (0, 500), (0, 0)])
         self.assertEqual(sagecruet.reading(127.0, millimetres=True), (0, 500))
         self.assertEqual([sagecruet.reading(value)[0] for value in (float("nan"), float("inf"), -1, 101)], [11, 11, 11, 12])
+        self.assertEqual([sagecruet.reading(value)[0] for value in (10**400, -(10**400), 1e39, Fraction(10**400))], 4 * [11])
+        self.assertEqual(sagecruet.reading(Fraction(1, 2)), (0, 50))
 
     @needs_library
     def test_the_offending_line(self):
@@ -268,9 +307,11 @@ class WithTheLibrary(unittest.TestCase):
                     self.assertRaisesRegex(TypeError, "^sheet: expected three lists", call)
         self.assertRaisesRegex(TypeError, "^sheet: expected three lists", sagecruet.sheet_verdict, None)
         for place, name in enumerate(sagecruet.Sheet._fields):
-            for wrong, kind in ((20, "list"), ("20", "list"), ([20.0], "whole"), ([True], "whole")):
-                with self.subTest(name=name, wrong=wrong), self.assertRaisesRegex(TypeError, f"^sheet: {name}: expected a {kind}"):
-                    sagecruet.sheet_verdict(T[:place] + (wrong,) + T[place + 1:])
+            for wrong, kind in ((20, "list"), ("20", "list"), ({20}, "list"),
+                                ([20.0], "whole number of "), ([True], "whole")):
+                sheet, words = T[:place] + (wrong,) + T[place + 1:], f"^sheet: {name}: expected a {kind}"
+                with self.subTest(name=name, wrong=wrong):
+                    self.assertRaisesRegex(TypeError, words, sagecruet.sheet_verdict, sheet)
         self.assertRaisesRegex(ValueError, "^sheet: depths: not from 0", sagecruet.sheet_verdict, ([-1], [0], [0]))
         self.assertRaisesRegex(TypeError, "^rate: expected a whole number", sagecruet.percent, T, 0.5, 40)
         self.assertRaisesRegex(ValueError, "^depth: not from 0", sagecruet.percent, T, 50, 2**64)
@@ -278,7 +319,8 @@ class WithTheLibrary(unittest.TestCase):
         self.assertRaisesRegex(TypeError, "^millimetres: expected True or False", sagecruet.reading, 1.0, "mm")
         for wrong in (None, "0.5", Decimal("0.5"), True, 1j):
             with self.subTest(wrong=wrong):
-                self.assertRaisesRegex(TypeError, "^reading: expected a float", sagecruet.reading, wrong)
+                self.assertRaisesRegex(TypeError, "^reading: expected a float, a whole number or a Fraction, in inches or milli",
+                                       sagecruet.reading, wrong)
 
 
 class Curves(unittest.TestCase):
@@ -308,7 +350,8 @@ class Curves(unittest.TestCase):
     def test_a_refused_curve_says_so(self):
         self.assertRaisesRegex(ValueError, "refused 7: The soil is too slow for the practice.", sagecruet.curve, "trench", "P")
         self.assertRaisesRegex(ValueError, "refused 6: The rate is out of range.", sagecruet.curve, "sand", "P", 17)
-        self.assertRaisesRegex(ValueError, "refused 1: The job cannot be read.", sagecruet.curve, "pond", "P")
+        words = r"^refused 1, line 1 \(practice=bas\): The job cannot be read.$"
+        self.assertRaisesRegex(ValueError, words, sagecruet.curve, "bas", "P", 52)
 
     def test_wrong_depths(self):
         self.assertRaisesRegex(ValueError, "depth: not from 0 to 200", sagecruet.curve, "sand", "P", depths=[201])
@@ -337,6 +380,18 @@ class Curves(unittest.TestCase):
             self.assertEqual(curve.call_args_list, [mock.call(practice, "N", rate, "step") for rate in rates])
         there.axes.plot.assert_called_with([0.0, 2.0], [0.0, 99.0], label="swale")
         self.assertEqual(there.axes.plot.call_count, 7)
+        self.assertEqual(there.axes.set.call_args[1]["title"], "swale, N")
+
+    @needs_answers
+    def test_a_plot_that_is_refused_makes_no_figure(self):
+        there = mock.MagicMock()
+        with mock.patch.dict(sys.modules, {"matplotlib": there, "matplotlib.pyplot": there.pyplot}):
+            self.assertRaisesRegex(ValueError, "^refused 1, line 1 ", sagecruet.plot, "bas", "P")
+            self.assertRaisesRegex(ValueError, "^refused 6: ", sagecruet.plot, "sand", "P", rates=[0, 17])
+            self.assertRaisesRegex(TypeError, "^rate: expected a whole", sagecruet.plot, "basin", "P", rates=[0.52])
+            self.assertRaisesRegex(TypeError, "^rates: expected a list", sagecruet.plot, "basin", "P", rates=52)
+            self.assertRaisesRegex(ValueError, "^rates: expected one at least", sagecruet.plot, "basin", "P", rates=[])
+        there.pyplot.subplots.assert_not_called()
 
     @needs_answers
     @unittest.skipIf(importlib.util.find_spec("matplotlib") is None, "matplotlib is not installed")
@@ -348,6 +403,11 @@ class Curves(unittest.TestCase):
         self.assertEqual((list(axes.lines[0].get_xdata())[4], list(axes.lines[0].get_ydata())[4]), (0.4, 48.0))
         self.assertIs(sagecruet.plot("trench", "P", rates=[17, 827], axes=axes), axes)
         self.assertEqual([line.get_label() for line in axes.lines], ["wetland", "0.17 in/hr", "8.27 in/hr"])
+        self.assertEqual(axes.get_title(), "trench, P")
+        picture = (ROOT / "docs" / "curves" / "trench.svg").read_text() if IN_REPOSITORY else None
+        for label in (axes.get_xlabel(), axes.get_ylabel()) if picture else ():
+            self.assertIn(f">{label}</text>", picture)
+        self.assertEqual(sagecruet.plot("basin", "P", rates=[39], mode="mix", axes=axes).get_title(), "basin, P, mode mix")
         with tempfile.TemporaryDirectory() as folder:
             axes.figure.savefig(Path(folder) / "curve.png")
             self.assertGreater((Path(folder) / "curve.png").stat().st_size, 1000)
@@ -398,6 +458,9 @@ class WhatIsThere(unittest.TestCase):
                 module.answer(SIZE)
             for words in ("make shared", "SAGECRUET_LIBRARY", "SAGECRUET_PROGRAM", "run -q"):
                 self.assertIn(words, str(caught.exception))
+            with self.machine("aarch64"), self.assertRaises(module.Unavailable) as caught:
+                module.answer(SIZE)
+            self.assertIn("this processor is aarch64. No program: ", str(caught.exception))
             self.assertEqual(module.from_acres("10.13"), 1013)
 
     def test_each_function_says_what_to_do(self):
@@ -422,8 +485,10 @@ class WhatIsThere(unittest.TestCase):
 
     def test_the_library_that_is_no_library(self):
         with elsewhere([("other.so", "no library")]) as (module, folder), self.machine("x86_64"):
-            for name, words in (("other.so", "other.so cannot be loaded: "), ("none.so", "there is no file .*none.so; ")):
-                with mock.patch.dict(os.environ, SAGECRUET_LIBRARY=str(folder / name)):
+            for place in (str(folder / "other.so"), str(folder / "none.so"), "libnone.so"):
+                # The loader's own words, which name the place and say more.
+                words = f"^the library cannot be loaded: {re.escape(place)}: .+; `make shared`"
+                with self.subTest(place=place), mock.patch.dict(os.environ, SAGECRUET_LIBRARY=place):
                     self.assertRaisesRegex(module.Unavailable, words, module.reading, 0.5)
 
     def test_the_run_of_the_repository_answers(self):
@@ -431,6 +496,9 @@ class WhatIsThere(unittest.TestCase):
             self.assertEqual(module.backend(), "program")
             self.assertEqual(module.answer(SIZE), {"answer": 0, "load": 7, "depth": 6, "credit": 5, "volume": 4, "removed": 3})
             self.assertRaises(module.Unavailable, module.answer, SIZE, T)
+            with self.machine("aarch64"):
+                words = "aarch64; here answer, .* work, .* by the program creditrun"
+                self.assertRaisesRegex(module.Unavailable, words, module.reading, 0.5)
 
     def test_the_program_that_is_named_comes_first(self):
         with self.repository(run="#!/bin/sh\nexit 2\n") as (module, folder):
@@ -455,12 +523,22 @@ class WhatIsThere(unittest.TestCase):
             (f"printf '{granted}'; kill -9 $$", "status -9"),
         ):
             with self.subTest(run=run), self.repository(run=f"#!/bin/sh\n{run}\n") as (module, _):
-                self.assertRaisesRegex(module.Unavailable, f"gave no answer and ended with {words};", module.answer, SIZE)
+                words = f"gave no answer and ended with {words}; .* the terminal"
+                self.assertRaisesRegex(module.Unavailable, words, module.answer, SIZE)
 
     def test_a_program_that_does_not_start(self):
-        for named, words in (("/nowhere/creditrun", "cannot be started"), ("'run -q", "SAGECRUET_PROGRAM is no command")):
+        for named, words in (
+            ("/nowhere/creditrun -q", "names a command that is not there, or may not be started: '/nowhere/creditrun'"),
+            ("no-such-command", "is not there, .* 'no-such-command'"), ("''", "is not there, .* ''"),
+            ("~/run -q", "is not there, .* '~/run'"),  # nothing is expanded
+            ("'run -q", "SAGECRUET_PROGRAM is no command"),
+        ):
             with self.subTest(named=named), elsewhere(SAGECRUET_PROGRAM=named) as (module, _):
+                self.assertIsNone(module.backend())
                 self.assertRaisesRegex(module.Unavailable, words, module.answer, SIZE)
+        with elsewhere([("run", "#!/nowhere/sh\n")]) as (module, folder):
+            with mock.patch.dict(os.environ, SAGECRUET_PROGRAM=f"'{folder}/run'"):
+                self.assertRaisesRegex(module.Unavailable, "cannot be started", module.answer, SIZE)
 
 
 if __name__ == "__main__":

@@ -1,4 +1,4 @@
-// Rules, "Job and answer text": the program reads a job from standard input and prints its answer in one write.
+// Rules, "Job and answer text": the program reads a job from standard input and prints its answer.
 use answer::Written;
 use libc::STDIN_FILENO;
 use libc::STDOUT_FILENO;

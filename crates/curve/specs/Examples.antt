@@ -1,4 +1,4 @@
--- Rules, "Numbers to hold on to": what is given back on sheet T. The starred numbers stand in crates/credit/specs/Numbers.antt.
+-- Two refusals on the sheet T of Rules, "Numbers to hold on to". Its starred numbers stand in crates/credit/specs/Numbers.antt.
 -- Assumes nothing.
 use Prim.Native.Nat.{ℕ}
 use mathlib.Core.Path.{_≡_, refl}

@@ -1,4 +1,4 @@
--- Rules, "Practices covered": the columns of Tables 3-6 to 3-25 but 3-22. Made by tools/published.py from source document 001.
+-- Rules, "Practices covered": the columns of Tables 3-6 to 3-25 but 3-22. Made by tools/published.py from document 001.
 -- Assumes nothing.
 use Prim.Native.Nat.{ℕ}
 use mathlib.Core.List.{List, [], _∷_}

@@ -1,4 +1,4 @@
-// Made by tools/published.py from source document 001.
+// Made by tools/published.py from document 001.
 
 // The depths of every table; then, for P and for N, each practice's rates and its percents, rate by rate.
 pub const SHEETS: [u64; 350] = [

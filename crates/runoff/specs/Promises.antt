@@ -44,8 +44,7 @@ StraightBetween =
     → runoffOf c d * gapAt k
     ≡ line (rain (rowAt k)) (printed (rowAt k) (columnPlace c)) (rain (rowAt (suc k))) (printed (rowAt (suc k)) (columnPlace c)) d
 
--- "The library carries all 1,005 runoff numbers as a constant sheet, five soils by 201 depths, and the line rule is shown to hold at
--- each entry."
+-- The sheet has 1,005 numbers, and each is the runoff of its soil at its depth, by the straight lines.
 abbrev pub SheetHolds : Type 0
 SheetHolds =
     (length runoffSheet ≡ 1_005) × ((c : Column) (d : ℕ) → d ≤ highestDepth → getD runoffSheet (entryPlace c d) 0 ≡ runoffOf c d)

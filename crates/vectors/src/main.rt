@@ -1,5 +1,5 @@
 // Rules, "Numbers to hold on to": runs the numbers that are told there and every entry of the published tables through the library,
-// and prints a line for each. The stored output was made from source document 001 without the library, and tools/expected.py says
+// and prints a line for each. The stored output was made from document 001 without the library, and tools/expected.py says
 // what each line holds.
 use credit::CreditAnswer;
 use credit::Wanted;

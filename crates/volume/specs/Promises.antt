@@ -20,7 +20,7 @@ use Rattle.volume.specs.Volume.{volumeOf, depthOf}
 use Rattle.volume.specs.Areas.{areasOf, volumeFrom}
 use Rattle.volume.specs.Answers.{volumeAnswer, depthAnswer, volumeOn, depthOn, gatheredAnswer, given}
 
--- "V(0) = 0"
+-- V is 0 at depth 0.
 abbrev pub StartsAtZero : Type 0
 StartsAtZero = (ps : List SubArea) → volumeOf ps 0 ≡ 0
 
