@@ -176,9 +176,9 @@ struct sagecruet_value sagecruet_percent(const uint64_t *depths, size_t depths_l
                                          bool mix, uint64_t rate, uint64_t depth);
 
 /* The rate of a probe reading, which is in millimetres per hour with `millimetres` true and in inches per hour with it
- * false: its exact value in hundredths of an inch per hour, rounded down. So 0.29f inches, a float a little below 0.29,
- * give 28, and 25.4f millimetres give 99. Refused 11 where it is not a number, infinite or below zero (-0.0 is 0), and
- * 12 where it is above 10,000 once it is rounded. */
+ * false: the hundredth of an inch per hour that is nearest to its exact value, an exact half going down. So 0.52f
+ * inches, a float a little below 0.52, give 52, 12.7f millimetres give 50, and 0.125f inches give 12. Refused 11 where it
+ * is not a number, infinite or below zero (-0.0 is 0), and 12 where the nearest hundredth is above 10,000. */
 struct sagecruet_value sagecruet_reading(bool millimetres, float reading);
 
 #ifdef __cplusplus

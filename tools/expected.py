@@ -16,7 +16,9 @@ ANSWER is the number given back, 0 on every line but one; the values beside a re
         the test of the rules' sheet T with 65000 read as 35000
 
     reading ANSWER RATE
-        three lines: 0.25 and 0.5 inches per hour, and 127 millimetres per hour
+        seven lines: 0.25 and 0.5 inches per hour, 127 millimetres per hour, 0.52 and 1.02 inches per hour, 6.858 and
+        210.058 millimetres per hour; the exact value of each one's 32-bit float goes to the nearest hundredth of an
+        inch per hour, an exact half going down
 
     sample ANSWER LOAD
         the load job of the rules: N, industrial impervious 1013, commercial pervious C 185, forest pervious C 89
@@ -32,14 +34,22 @@ ANSWER is the number given back, 0 on every line but one; the values beside a re
         site with the printed percent for the target
 """
 
+import struct
 from fractions import Fraction
-from math import floor
+from math import ceil, floor
 
 from document import COLUMNS, LAND_USES, NUTRIENTS, PRACTICES, Document, words_for
 
 GRID = range(201)
 SOILS = COLUMNS + ("U",)
 FULL = 100_000
+
+# an inch in inches and in millimetres, and the readings by what a probe shows in that unit
+INCHES, MILLIMETRES = Fraction(1), Fraction(254, 10)
+READINGS = (
+    (0.25, INCHES), (0.5, INCHES), (127, MILLIMETRES),
+    (0.52, INCHES), (1.02, INCHES), (6.858, MILLIMETRES), (210.058, MILLIMETRES),
+)
 
 
 def column(soil):
@@ -109,6 +119,16 @@ def first_break(depths, rates, percents):
     return 0, 0, 0
 
 
+def value_sent(shown):
+    """The exact value of the 32-bit float that a probe sends for the number it shows."""
+    return Fraction(*struct.unpack("<f", struct.pack("<f", shown)))
+
+
+def nearest(value):
+    """The whole number nearest to a value, the lower one where two are equally near."""
+    return ceil(value - Fraction(1, 2))
+
+
 def output(document):
     rows = document.runoff_rows()
     for soil, rain in (("A", 55), ("CD", 110), ("D", 200)):
@@ -117,8 +137,8 @@ def output(document):
         for place, soil in enumerate(COLUMNS):
             yield "runoff", place, row[0], runoff(rows, soil, row[0])
     yield ("sheet", *first_break([20, 60, 100], [25, 75], [20000, 50000, 70000, 40000, 35000, 80000]))
-    for reading, millimetres in ((Fraction(1, 4), False), (Fraction(1, 2), False), (Fraction(127), True)):
-        yield "reading", 0, floor(100 * reading / (Fraction(254, 10) if millimetres else 1))
+    for shown, unit in READINGS:
+        yield "reading", 0, nearest(100 * value_sent(shown) / unit)
 
     rates = {n: document.export_rates(n) for n in NUTRIENTS}
     sample = [("ind", None, 1013), ("com", "C", 185), ("for", "C", 89)]

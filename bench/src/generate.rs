@@ -298,10 +298,15 @@ pub fn depth(random: &mut Random) -> u64 {
     }
 }
 
-/// A reading: any bits, an ordinary value, or the floats about a hundredth's edge.
+/// The float itself, or one of the two on either side.
+fn about(random: &mut Random, edge: f32) -> f32 {
+    f32::from_bits((edge.to_bits() as i64 + random.below(5) as i64 - 2).max(0) as u32)
+}
+
+/// A reading: any bits, an ordinary value, or the floats about a hundredth and about the half between two, in either unit.
 pub fn reading(random: &mut Random) -> f32 {
     let bits = random.next() as u32;
-    match random.below(6) {
+    match random.below(7) {
         0 => f32::from_bits(bits),
         1 => f32::from_bits(bits & 0x7fff_ffff),
         2 => random.pick(&[
@@ -317,9 +322,14 @@ pub fn reading(random: &mut Random) -> f32 {
         ]),
         3 => (bits % 12_000) as f32 / 100.0,
         4 => (bits % 300_000) as f32 / 100.0,
+        5 => {
+            let edge = random.pick(&[0.005, 0.127, 0.125, 15.875, 100.005, 2540.127]);
+            about(random, edge)
+        }
         _ => {
-            let edge = random.below(10_003) as f32 / if random.one_in(2) { 100.0 } else { 100.0 / 25.4 };
-            f32::from_bits((edge.to_bits() as i64 + random.below(5) as i64 - 2).max(0) as u32)
+            let halves = random.below(20_004) as f32;
+            let edge = halves / if random.one_in(2) { 200.0 } else { 200.0 / 25.4 };
+            about(random, edge)
         }
     }
 }

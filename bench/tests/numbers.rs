@@ -67,6 +67,10 @@ fn readings() {
     assert_eq!(reference::reading(false, 0.25), Value::granted(25));
     assert_eq!(reference::reading(false, 0.5), Value::granted(50));
     assert_eq!(reference::reading(true, 127.0), Value::granted(500));
+    assert_eq!(reference::reading(false, 0.52), Value::granted(52));
+    assert_eq!(reference::reading(false, 1.02), Value::granted(102));
+    assert_eq!(reference::reading(false, 0.125), Value::granted(12));
+    assert_eq!(reference::reading(true, 15.875), Value::granted(62));
     assert_eq!(reference::reading(false, -0.0), Value::granted(0));
 }
 

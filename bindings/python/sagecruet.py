@@ -530,11 +530,13 @@ def reading(value, millimetres=False):
     is rounded to a 32-bit float first, as a probe gives it; what is too large for one is infinite, and refused 11. Needs the
     library.
 
-    reading(0.52) is (0, 51), since the float that counts is just below 0.52 and is rounded down; a rate that is typed goes by
-    from_inches_per_hour("0.52").
+    Its exact value, which for 0.52 is just below 0.52, goes to the nearest hundredth of an inch per hour, an exact half going
+    down. A rate that is typed goes by from_inches_per_hour("0.52").
 
     >>> reading(127.0, millimetres=True)
     (0, 500)
+    >>> reading(0.52), reading(0.125)
+    ((0, 52), (0, 12))
     """
     if isinstance(value, bool) or not isinstance(value, numbers.Real):
         _refuse_kind("reading", "a float, a whole number or a Fraction, in inches or millimetres per hour", value)

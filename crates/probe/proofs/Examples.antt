@@ -3,6 +3,7 @@
 -- Assumes nothing.
 use mathlib.Core.Path.{_≡_, refl}
 use mathlib.Core.Bool.{true, false}
+use Prim.Native.Nat.{ℕ}
 use lib.IntN.{pos, negsuc}
 use lib.Ieee.{nan, inf, fin, binary32, ofBits}
 use Rattle.probe.specs.declared.Reading.the-variants.{InchesPerHour, MillimetresPerHour}
@@ -22,23 +23,45 @@ pub five-inches : given (rateOf (MillimetresPerHour (fin false 127 (pos 0)))) �
 unfolding rounded withinMost answerIn
 five-inches = refl
 
--- the largest reading in inches that is granted, 100.00999450683594, and the next float
-pub largest-inches : given (rateOf (InchesPerHour (ofBits binary32 0x42c8_051e))) ≡ (0, 10_000)
-unfolding rounded withinMost answerIn ofBits
-largest-inches = refl
+-- what is given back for the float of these bits, in inches and in millimetres per hour
+abbrev inches : ℕ → ℕ × ℕ
+inches bits = given (rateOf (InchesPerHour (ofBits binary32 bits)))
 
-pub past-largest-inches : given (rateOf (InchesPerHour (ofBits binary32 0x42c8_051f))) ≡ (12, 0)
-unfolding rounded withinMost answerIn ofBits
-past-largest-inches = refl
+abbrev millimetres : ℕ → ℕ × ℕ
+millimetres bits = given (rateOf (MillimetresPerHour (ofBits binary32 bits)))
 
--- the largest reading in millimetres that is granted, 2540.25390625, and the next float
-pub largest-millimetres : given (rateOf (MillimetresPerHour (ofBits binary32 0x451e_c410))) ≡ (0, 10_000)
+-- A probe that shows 0.52 or 1.02 sends the float just below it, as does one that shows 12.7 mm, half an inch, or 4.318 mm, 0.17 inches.
+pub shown-in-inches : (inches 0x3f05_1eb8 ≡ (0, 52)) × (inches 0x3f82_8f5c ≡ (0, 102))
 unfolding rounded withinMost answerIn ofBits
-largest-millimetres = refl
+shown-in-inches = (refl, refl)
 
-pub past-largest-millimetres : given (rateOf (MillimetresPerHour (ofBits binary32 0x451e_c411))) ≡ (12, 0)
+pub shown-in-millimetres : (millimetres 0x414b_3333 ≡ (0, 50)) × (millimetres 0x408a_2d0e ≡ (0, 17))
 unfolding rounded withinMost answerIn ofBits
-past-largest-millimetres = refl
+shown-in-millimetres = (refl, refl)
+
+-- exact halves, 0.125 inches and 15.875 mm, and the next floats
+pub half-in-inches : (inches 0x3e00_0000 ≡ (0, 12)) × (inches 0x3e00_0001 ≡ (0, 13))
+unfolding rounded withinMost answerIn ofBits
+half-in-inches = (refl, refl)
+
+pub half-in-millimetres : (millimetres 0x417e_0000 ≡ (0, 62)) × (millimetres 0x417e_0001 ≡ (0, 63))
+unfolding rounded withinMost answerIn ofBits
+half-in-millimetres = (refl, refl)
+
+-- the float just below 0.005, half a hundredth, and the next one
+pub half-a-hundredth : (inches 0x3ba3_d70a ≡ (0, 0)) × (inches 0x3ba3_d70b ≡ (0, 1))
+unfolding rounded withinMost answerIn ofBits
+half-a-hundredth = (refl, refl)
+
+-- the largest reading in inches that is granted, 100.00499725341797, the next float, and the float just below 100.01
+pub largest-inches : (inches 0x42c8_028f ≡ (0, 10_000)) × (inches 0x42c8_0290 ≡ (12, 0)) × (inches 0x42c8_051e ≡ (12, 0))
+unfolding rounded withinMost answerIn ofBits
+largest-inches = (refl, refl, refl)
+
+-- the largest reading in millimetres that is granted, 2540.126953125, the next float, and the float just below 2540.254
+pub largest-millimetres : (millimetres 0x451e_c208 ≡ (0, 10_000)) × (millimetres 0x451e_c209 ≡ (12, 0)) × (millimetres 0x451e_c410 ≡ (12, 0))
+unfolding rounded withinMost answerIn ofBits
+largest-millimetres = (refl, refl, refl)
 
 -- minus zero counts as zero, and so does the smallest float above it
 pub minus-zero-inches : given (rateOf (InchesPerHour (fin true 0 (pos 0)))) ≡ (0, 0)

@@ -1,31 +1,33 @@
 -- The promises of specs/Promises.antt: floats in order are fractions in order, and rounding and the limit keep the order.
 -- Assumes nothing.
-use mathlib.Core.Path.{_≡_, refl, sym, ap, _∙_}
+use mathlib.Core.Path.{_≡_, refl, sym, ap, _∙_, subst}
 use mathlib.Core.Logic.{_⊎_, inl, inr}
-use mathlib.Core.Bool.{Bool, true, false, cond, _&&_, _||_}
-use Prim.Native.Nat.{ℕ, _*_, _≤_, _<_, zero-le}
-use native.Mathlib.Nat.{le-trans, le-of-eq, le-of-lt, zero-mul, mul-pos, mul-mul-mul-comm, mul-le-mul-right, div-mul-le-self, div-lt-iff-lt-mul}
+use mathlib.Core.Bool.{Bool, true, false, cond, _&&_, _||_, true≢false}
+use Prim.Native.Nat.{ℕ, zero, suc, _+_, _*_, _≤_, _<_, zero-le}
+use native.Mathlib.Nat.{le-trans, le-of-eq, le-of-lt, zero-lt-suc, zero-mul, mul-pos, mul-mul-mul-comm, mul-le-mul-right}
 use native.Mathlib.Omega.{arith}
 use lib.IntN.{ℤ}
 use lib.Dec.{T, lit<, leb, ltb, eqb, ltb→lt, eqb→eq, leb→le}
-use lib.Ieee.{Float, nan, inf, fin, up, down, le}
-use lib.Ieee.Fits.{down-pos, and-l}
-use borrow.Author.Tests.{ltb-false}
+use lib.Ieee.{Float, nan, inf, fin, up, down, lt, le}
+use lib.Ieee.Fits.{up-pos, down-pos, and-l}
+use borrow.Author.Tests.{lt-ltb, le-ltb, ltb-false, leb-false}
 use Rattle.refusal.specs.declared.Refusal.the-variants.{ReadingNotARate, ReadingTooFast}
-use Rattle.refusal.specs.Refusal.{granted}
+use Rattle.refusal.specs.Refusal.{numberOf, granted}
 use Rattle.units.specs.Limits.{mostRate}
 use Rattle.probe.specs.declared.Reading.{Reading}
 use Rattle.probe.specs.declared.Reading.the-variants.{InchesPerHour, MillimetresPerHour}
 use Rattle.probe.specs.declared.RateAnswer.{RateAnswer}
 use Rattle.probe.specs.declared.RateAnswer.the-variants.{Granted, Refused}
 use Rattle.probe.specs.Readings.{rounded, withinMost, answerIn, rateOf, given}
-use Rattle.probe.specs.Promises.{upTo, RoundsDown, NeverFalls, StaysTooFast}
-use Rattle.probe.proofs.Rounding.{rounded-rises}
-use Rattle.probe.proofs.Parts.{granted-within}
+use Rattle.probe.specs.Promises.{upTo, RoundsToNearest, OnlyNearest, noRate, NearestIn, ByNearest, NearestGivenBack, NeverFalls, StaysTooFast}
+use Rattle.probe.proofs.Rounding.{rounded-nearest, rounded-only, rounded-rises}
+use Rattle.probe.proofs.Parts.{granted-within, refused-past}
 
-pub rounds-down : RoundsDown
-unfolding rounded
-rounds-down n d D = (div-mul-le-self n d, div-lt-iff-lt-mul D .0 (omega arith))
+pub rounds-to-nearest : RoundsToNearest
+rounds-to-nearest = rounded-nearest
+
+pub only-nearest : OnlyNearest
+only-nearest = rounded-only
 
 -- ---- floats in order
 
@@ -121,3 +123,72 @@ stays-too-fast r t b l e f = elim (same-unit r t b l f) [
   | inl n ↦ unlike (given (Refused ReadingNotARate)) (given (Refused ReadingTooFast)) (sym (ap given n) ∙ e) (omega arith)
   | inr w ↦ unlike (given (Refused ReadingTooFast)) (granted, w .rate) (sym e ∙ w .is) (omega arith)
 ]
+
+-- ---- the nearest given back
+
+-- comparing with zero is the definition's test
+compared : (s : Bool) (m : ℕ) (e : ℤ) → noRate (fin s m e) ≡ (s && ltb 0 m)
+unfolding lt
+compared false m e = simp (zero-mul, le-ltb (m * up e * 1) 0 zero-le)
+compared true zero e = simp zero-mul
+compared true (suc m) e =
+    let some : 0 < suc m * up e = mul-pos (zero-lt-suc m) (up-pos e) in
+    lt-ltb 0 (suc m * up e * 1 + 0 * down e) (omega arith) ∙ sym (lt-ltb 0 (suc m) (zero-lt-suc m))
+
+refused-rate : (i n : ℕ) → (granted ≡ n → ⊥) → given (withinMost i) ≡ (n, 0) → (numberOf ReadingTooFast ≡ n) × (mostRate < i)
+unfolding withinMost
+refused-rate i n d = go (leb i mostRate) (leb-false i mostRate)
+  where
+    go : (b : Bool) → (b ≡ false → mostRate < i) → given (cond b (Granted (record { 0 = i })) (Refused ReadingTooFast)) ≡ (n, 0)
+        → (numberOf ReadingTooFast ≡ n) × (mostRate < i)
+    go true l e = absurd (d (ap (λ (p : ℕ × ℕ). p .0) e))
+    go false l e = (ap (λ (p : ℕ × ℕ). p .0) e, l refl)
+
+eleven-is-not-twelve : numberOf ReadingTooFast ≡ numberOf ReadingNotARate → ⊥
+eleven-is-not-twelve e = omega arith
+
+-- a float that is no rate, and one with a nearest hundredth
+by-none : (h u : ℕ) (x : Float) → noRate x ≡ true → ((a : ℕ) → NearestIn h u x a → ⊥) → ByNearest h u x (Refused ReadingNotARate)
+by-none h u x none never = record {
+  granted-exactly = λ a. (λ e. absurd (not-granted a e), λ p. absurd (never a (p .0)));
+  not-a-rate-exactly = (λ e. none, λ e. refl);
+  too-fast-exactly = (
+    λ e. absurd (unlike (given (Refused ReadingNotARate)) (given (Refused ReadingTooFast)) e (omega arith)),
+    λ p. absurd (never (p .0) (p .1)),
+  );
+}
+
+by-one : (h u : ℕ) (x : Float) (i : ℕ) → noRate x ≡ false → NearestIn h u x i → ((a : ℕ) → NearestIn h u x a → a ≡ i) → ByNearest h u x (withinMost i)
+by-one h u x i some near only = record {
+  granted-exactly = λ a. (
+    λ e. let g = granted-rate i a e in (subst (NearestIn h u x) (g .0) near, le-trans (le-of-eq (sym (g .0))) (g .1)),
+    λ p. let same : a ≡ i = only a (p .0) in rw same (sym (ap given (granted-within i (rw same at (p .1))))),
+  );
+  not-a-rate-exactly = (
+    λ e. absurd (eleven-is-not-twelve (refused-rate i (numberOf ReadingNotARate) (omega arith) e .0)),
+    λ e. absurd (true≢false (sym e ∙ some)),
+  );
+  too-fast-exactly = (
+    λ e. (i, near, refused-rate i (numberOf ReadingTooFast) (omega arith) e .1),
+    λ p. sym (ap given (refused-past i (rw (only (p .0) (p .1)) at (p .2)))),
+  );
+}
+
+by-nearest : (h u : ℕ) (x : Float) → 0 < u → ByNearest h u x (answerIn h u x)
+unfolding answerIn
+by-nearest h u nan U = by-none h u nan refl (λ a p. p)
+by-nearest h u (inf s) U = by-none h u (inf s) refl (λ a p. p)
+by-nearest h u (fin s m e) U = go (s && ltb 0 m) (compared s m e)
+  where
+    D : 0 < down e * u
+    D = mul-pos (down-pos e) U
+
+    go : (t : Bool) → noRate (fin s m e) ≡ t
+        → ByNearest h u (fin s m e) (cond t (Refused ReadingNotARate) (withinMost (rounded (m * up e * h) (down e * u))))
+    go true t = by-none h u (fin s m e) t (λ a p. true≢false (sym t ∙ p .0))
+    go false t =
+        by-one h u (fin s m e) (rounded (m * up e * h) (down e * u)) t (t, rounded-nearest (m * up e * h) (down e * u) D)
+        (λ a p. rounded-only (m * up e * h) (down e * u) a D (p .1))
+
+pub nearest-given-back : NearestGivenBack
+nearest-given-back x = (by-nearest 100 1 x (lit< tt), by-nearest 1_000 254 x (lit< tt))

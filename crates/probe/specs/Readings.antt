@@ -1,6 +1,6 @@
 -- Rules, "Probe readings": the exact value of a reading becomes a rate in hundredths of an inch per hour.
 -- Assumes nothing.
-use Prim.Native.Nat.{ℕ, _*_, _/_}
+use Prim.Native.Nat.{ℕ, _+_, _-_, _*_, _/_, _%_}
 use mathlib.Core.Bool.{cond, _&&_}
 use lib.Dec.{leb, ltb}
 use lib.Ieee.{Float, nan, inf, fin, up, down}
@@ -12,9 +12,10 @@ use Rattle.probe.specs.declared.Reading.the-variants.{InchesPerHour, Mil
 use Rattle.probe.specs.declared.RateAnswer.{RateAnswer}
 use Rattle.probe.specs.declared.RateAnswer.the-variants.{Granted, Refused}
 
--- the whole number that n / d hundredths become: rounded down
+-- the whole number that n / d hundredths become: n / d rounded down, and one more where the next number is nearer, so that an exact
+-- half goes down
 unfoldable pub rounded : ℕ → ℕ → ℕ
-rounded n d = n / d
+rounded n d = cond (ltb (d - n % d) (n % d)) (n / d + 1) (n / d)
 
 -- what was rounded is the rate, and is refused 12 where it is over the largest
 unfoldable pub withinMost : ℕ → RateAnswer

@@ -99,12 +99,17 @@ fn wide(n: u32) -> u64
     n as u64
 }
 
-// The whole number that n / d hundredths become.
+// The whole number that n / d hundredths become: the nearest, an exact half going down.
 fn rounded(n: u64, d: u64) -> u64
     requires { ⌜ 0 < d ⌝ }
     ensures { λ r. ⌜ r ≡ rounded n d ⌝ }
 {
-    n / d
+    let whole = n / d;
+    let rest = n % d;
+    if d - rest < rest {
+        return whole + 1;
+    }
+    whole
 }
 
 // What was rounded is the rate, unless it is over the largest.

@@ -127,11 +127,15 @@ fn say_reading(reading: Reading) {
     }
 }
 
-// The rules' three readings.
+// The rules' five readings, and two that millimetres put just below a hundredth.
 fn readings() {
     say_reading(Reading::InchesPerHour(0.25));
     say_reading(Reading::InchesPerHour(0.5));
     say_reading(Reading::MillimetresPerHour(127.0));
+    say_reading(Reading::InchesPerHour(0.52));
+    say_reading(Reading::InchesPerHour(1.02));
+    say_reading(Reading::MillimetresPerHour(6.858));
+    say_reading(Reading::MillimetresPerHour(210.058));
 }
 
 fn with(site: Site, land: LandUse, cover: Cover, soil: Soil, area: u64) -> Site {
