@@ -298,7 +298,7 @@ pub fn depth(random: &mut Random) -> u64 {
     }
 }
 
-/// The float itself, or one of the two on either side.
+/// The float itself, or one at most two floats away from it.
 fn about(random: &mut Random, edge: f32) -> f32 {
     f32::from_bits((edge.to_bits() as i64 + random.below(5) as i64 - 2).max(0) as u32)
 }

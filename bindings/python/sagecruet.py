@@ -530,8 +530,8 @@ def reading(value, millimetres=False):
     is rounded to a 32-bit float first, as a probe gives it; what is too large for one is infinite, and refused 11. Needs the
     library.
 
-    Its exact value, which for 0.52 is just below 0.52, goes to the nearest hundredth of an inch per hour, an exact half going
-    down. A rate that is typed goes by from_inches_per_hour("0.52").
+    The float's exact value, which for 0.52 is just below 0.52, goes to the nearest hundredth of an inch per hour, an exact
+    half going down. A rate that is typed goes by from_inches_per_hour("0.52").
 
     >>> reading(127.0, millimetres=True)
     (0, 500)

@@ -8,8 +8,8 @@ const MOST_RATE: u64 = 10_000;
 ///
 /// A finite float is `mantissa * 2^exponent`. With an exponent of 0 or more it is at least 2^23, far over the largest
 /// rate; with one of -64 or less it is far below half a hundredth. Between, the hundredths are a fraction: the mantissa
-/// times 100, or times 500 over 127 for millimetres, over a power of two. It is rounded whole, since shifting the power
-/// out first would lose the half.
+/// times 100, or times 500 over 127 for millimetres, over a power of two. The fraction is rounded in one step, since
+/// shifting the power out first would lose the half.
 pub fn rate(millimetres: bool, reading: f32) -> Value {
     if !reading.is_finite() || reading < 0.0 {
         return Value::refused(11);
@@ -35,7 +35,7 @@ pub fn rate(millimetres: bool, reading: f32) -> Value {
     Value::granted(rate)
 }
 
-/// The largest whole number that is below the fraction and a half.
-fn nearest(above: u128, below: u128) -> u64 {
-    ((2 * above + below - 1) / (2 * below)) as u64
+/// The largest whole number that is below the fraction `over / under` and a half.
+fn nearest(over: u128, under: u128) -> u64 {
+    ((2 * over + under - 1) / (2 * under)) as u64
 }

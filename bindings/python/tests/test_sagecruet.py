@@ -287,7 +287,8 @@ class WithTheLibrary(unittest.TestCase):
     def test_readings(self):
         self.assertEqual([sagecruet.reading(value) for value in (0.25, 0.5, 5, -0.0)], [(0, 25), (0, 50), (0, 500), (0, 0)])
         self.assertEqual([sagecruet.reading(value) for value in (0.52, 1.02, 0.125)], [(0, 52), (0, 102), (0, 12)])
-        self.assertEqual([sagecruet.reading(value, millimetres=True) for value in (127.0, 12.7, 15.875)], [(0, 500), (0, 50), (0, 62)])
+        self.assertEqual([sagecruet.reading(value, millimetres=True) for value in (127.0, 12.7, 15.875)],
+                         [(0, 500), (0, 50), (0, 62)])
         self.assertEqual([sagecruet.reading(value)[0] for value in (float("nan"), float("inf"), -1, 101)], [11, 11, 11, 12])
         self.assertEqual([sagecruet.reading(value)[0] for value in (10**400, -(10**400), 1e39, Fraction(10**400))], 4 * [11])
         self.assertEqual(sagecruet.reading(Fraction(1, 2)), (0, 50))

@@ -1,5 +1,5 @@
--- Rules, "Probe readings": the readings that are told there, and the edges of what is granted, by computation of the definitions. A
--- float is written as it is, m * 2 ^ e, or by its bits.
+-- Rules, "Probe readings": the readings that are told there, exact halves, and the edges of what is granted, by computation of the
+-- definitions. A float is written as it is, m * 2 ^ e, or by its bits.
 -- Assumes nothing.
 use mathlib.Core.Path.{_≡_, refl}
 use mathlib.Core.Bool.{true, false}

@@ -1,4 +1,5 @@
--- The promises of specs/Promises.antt: floats in order are fractions in order, and rounding and the limit keep the order.
+-- The promises of specs/Promises.antt: floats in order are fractions in order, and rounding and the limit keep the order; and what is
+-- given back goes by the nearest hundredth.
 -- Assumes nothing.
 use mathlib.Core.Path.{_≡_, refl, sym, ap, _∙_, subst}
 use mathlib.Core.Logic.{_⊎_, inl, inr}
@@ -184,10 +185,10 @@ by-nearest h u (fin s m e) U = go (s && ltb 0 m) (compared s m e)
     D = mul-pos (down-pos e) U
 
     go : (t : Bool) → noRate (fin s m e) ≡ t
-        → ByNearest h u (fin s m e) (cond t (Refused ReadingNotARate) (withinMost (rounded (m * up e * h) (down e * u))))
+        → ByNearest h u (fin s m e) (cond t (Refused ReadingNotARate) (withinMost (hundredths h u m e)))
     go true t = by-none h u (fin s m e) t (λ a p. true≢false (sym t ∙ p .0))
     go false t =
-        by-one h u (fin s m e) (rounded (m * up e * h) (down e * u)) t (t, rounded-nearest (m * up e * h) (down e * u) D)
+        by-one h u (fin s m e) (hundredths h u m e) t (t, rounded-nearest (m * up e * h) (down e * u) D)
         (λ a p. rounded-only (m * up e * h) (down e * u) a D (p .1))
 
 pub nearest-given-back : NearestGivenBack

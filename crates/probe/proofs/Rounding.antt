@@ -1,6 +1,6 @@
 -- All that the rest of the crate knows of `rounded`: it is the nearest whole number, an exact half going down, and the only one; so a
 -- larger fraction never gives a smaller number, equal fractions give the same one, a whole number gives itself, and what is at most a
--- half gives 0.
+-- half gives 0. For its code: which test leads where, and that one more fits.
 -- Assumes nothing.
 use mathlib.Core.Path.{_≡_, sym, _∙_, subst}
 use mathlib.Core.Logic.{inl, inr}

@@ -30,7 +30,7 @@ Nearest n d r = (r * 2 * d < n * 2 + d) × (n * 2 ≤ (r * 2 + 1) * d)
 abbrev pub RoundsToNearest : Type 0
 RoundsToNearest = (n d : ℕ) → 0 < d → Nearest n d (rounded n d)
 
--- and no other number is. Who believes these two need not read how it is found.
+-- and no other number is. Whoever believes these two need not read how it is found.
 abbrev pub OnlyNearest : Type 0
 OnlyNearest = (n d r : ℕ) → 0 < d → Nearest n d r → r ≡ rounded n d
 
@@ -40,8 +40,8 @@ noRate nan = true
 noRate (inf minus) = true
 noRate (fin minus m e) = lt (fin minus m e) (fin false 0 (pos 0))
 
--- a is the nearest hundredth of an inch to a float of which so many `units` are so many `hundredths`. The float is a number from zero up,
--- and its exact value is m * 2 ^ e, where 2 ^ e is the fraction up e / down e.
+-- a is the nearest hundredth of an inch per hour to a float of which so many `units` are so many `hundredths`. The float is a number from
+-- zero up, and its exact value is m * 2 ^ e, where 2 ^ e is the fraction up e / down e.
 abbrev pub NearestIn : ℕ → ℕ → Float → ℕ → Type 0
 NearestIn hundredths units nan a = ⊥
 NearestIn hundredths units (inf minus) a = ⊥

@@ -127,7 +127,7 @@ fn say_reading(reading: Reading) {
     }
 }
 
-// The rules' five readings, and two that millimetres put just below a hundredth.
+// The rules' five readings, and two in millimetres whose floats lie just below a hundredth.
 fn readings() {
     say_reading(Reading::InchesPerHour(0.25));
     say_reading(Reading::InchesPerHour(0.5));
