@@ -3,24 +3,27 @@
 -- Assumes nothing.
 use mathlib.Core.Path.{_≡_, refl, sym, ap, _∙_, subst}
 use mathlib.Core.Logic.{_⊎_, inl, inr}
-use mathlib.Core.Bool.{Bool, true, false, cond, _&&_, _||_, true≢false}
+use mathlib.Core.Bool.{Bool, true, false, cond, _&&_, _||_}
 use Prim.Native.Nat.{ℕ, zero, suc, _+_, _*_, _≤_, _<_, zero-le}
 use native.Mathlib.Nat.{le-trans, le-of-eq, le-of-lt, zero-lt-suc, zero-mul, mul-pos, mul-mul-mul-comm, mul-le-mul-right}
 use native.Mathlib.Omega.{arith}
 use lib.IntN.{ℤ}
-use lib.Dec.{T, lit<, leb, ltb, eqb, ltb→lt, eqb→eq, leb→le}
+use lib.Dec.{T, lit<, ltb, eqb, ltb→lt, eqb→eq}
 use lib.Ieee.{Float, nan, inf, fin, up, down, lt, le}
 use lib.Ieee.Fits.{up-pos, down-pos, and-l}
-use borrow.Author.Tests.{lt-ltb, le-ltb, ltb-false, leb-false}
+use borrow.Author.Tests.{lt-ltb, le-ltb, ltb-false}
+use Rattle.refusal.specs.declared.Refusal.{Refusal}
 use Rattle.refusal.specs.declared.Refusal.the-variants.{ReadingNotARate, ReadingTooFast}
 use Rattle.refusal.specs.Refusal.{numberOf, granted}
+use Rattle.refusal.proofs.Numbers.{refusal-not-granted}
 use Rattle.units.specs.Limits.{mostRate}
+use Rattle.laws.proofs.Order.{lt-or-le, never-both}
 use Rattle.probe.specs.declared.Reading.{Reading}
 use Rattle.probe.specs.declared.Reading.the-variants.{InchesPerHour, MillimetresPerHour}
 use Rattle.probe.specs.declared.RateAnswer.{RateAnswer}
 use Rattle.probe.specs.declared.RateAnswer.the-variants.{Granted, Refused}
 use Rattle.probe.specs.Readings.{rounded, withinMost, answerIn, rateOf, given}
-use Rattle.probe.specs.Promises.{upTo, RoundsToNearest, OnlyNearest, noRate, NearestIn, ByNearest, NearestGivenBack, NeverFalls, StaysTooFast}
+use Rattle.probe.specs.Promises.{upTo, RoundsToNearest, OnlyNearest, notARate, NearestIn, ByNearest, NearestGivenBack, NeverFalls, StaysTooFast}
 use Rattle.probe.proofs.Rounding.{rounded-nearest, rounded-only, rounded-rises}
 use Rattle.probe.proofs.Parts.{granted-within, refused-past}
 
@@ -64,19 +67,35 @@ hundredths-rise h u m n e d U l =
 
 -- ---- answers in order
 
-unlike : (p q : ℕ × ℕ) → p ≡ q → (p .0 ≡ q .0 → ⊥) → ⊥
-unlike p q e d = d (ap (λ (t : ℕ × ℕ). t .0) e)
+-- no refusal is granted, and 11 is not 12
+not-granted : (why : Refusal) (a : ℕ) → given (Refused why) ≡ (granted, a) → ⊥
+not-granted why a e = refusal-not-granted why (ap (λ (p : ℕ × ℕ). p .0) e)
 
-not-granted : (a : ℕ) → given (Refused ReadingNotARate) ≡ (granted, a) → ⊥
-not-granted a e = unlike (given (Refused ReadingNotARate)) (granted, a) e (omega arith)
+apart : given (Refused ReadingNotARate) ≡ given (Refused ReadingTooFast) → ⊥
+apart e =
+    let same : numberOf ReadingNotARate ≡ numberOf ReadingTooFast = ap (λ (p : ℕ × ℕ). p .0) e in
+    omega arith
+
+-- what is rounded is granted, or is too fast
+told : (i : ℕ) (q : ℕ × ℕ) → given (withinMost i) ≡ q
+    → ((i ≤ mostRate) × ((granted, i) ≡ q)) ⊎ ((mostRate < i) × (given (Refused ReadingTooFast) ≡ q))
+told i q e = elim (lt-or-le mostRate i) [
+  | inl past ↦ inr (past, ap given (refused-past i past) ∙ e)
+  | inr within ↦ inl (within, ap given (granted-within i within) ∙ e)
+]
 
 granted-rate : (i a : ℕ) → given (withinMost i) ≡ (granted, a) → (i ≡ a) × (i ≤ mostRate)
-unfolding withinMost
-granted-rate i a = go (leb i mostRate) (leb→le i mostRate)
-  where
-    go : (b : Bool) → (T b → i ≤ mostRate) → given (cond b (Granted (record { 0 = i })) (Refused ReadingTooFast)) ≡ (granted, a) → (i ≡ a) × (i ≤ mostRate)
-    go true l e = (ap (λ (p : ℕ × ℕ). p .1) e, l tt)
-    go false l e = absurd (unlike (given (Refused ReadingTooFast)) (granted, a) e (omega arith))
+granted-rate i a e = elim (told i (granted, a) e) [
+  | inl w ↦ (ap (λ (p : ℕ × ℕ). p .1) (w .1), w .0)
+  | inr f ↦ absurd (not-granted ReadingTooFast a (f .1))
+]
+
+refused-rate : (i : ℕ) (why : Refusal) → given (withinMost i) ≡ given (Refused why)
+    → (mostRate < i) × (given (Refused ReadingTooFast) ≡ given (Refused why))
+refused-rate i why e = elim (told i (given (Refused why)) e) [
+  | inl w ↦ absurd (not-granted why i (sym (w .1)))
+  | inr f ↦ f
+]
 
 -- an answer that is refused 11, or is granted with a rate of at most b
 record Lower (b : ℕ) (answer : RateAnswer) : Type 0 where
@@ -90,7 +109,7 @@ NoMore b answer = (answer ≡ Refused ReadingNotARate) ⊎ Lower b answer
 by-tests : (p q : Bool) (i j b : ℕ) → (p ≡ false → i ≤ j) → given (cond q (Refused ReadingNotARate) (withinMost j)) ≡ (granted, b)
     → NoMore b (cond p (Refused ReadingNotARate) (withinMost i))
 by-tests true q i j b l e = inl refl
-by-tests false true i j b l e = absurd (not-granted b e)
+by-tests false true i j b l e = absurd (not-granted ReadingNotARate b e)
 by-tests false false i j b l e =
     let y = granted-rate j b e in
     let order : i ≤ j = l refl in
@@ -99,8 +118,8 @@ by-tests false false i j b l e =
 -- what is no larger than a granted reading is below zero, or is granted with no larger a rate
 no-more : (h u : ℕ) (x y : Float) (b : ℕ) → 0 < u → T (le x y) → given (answerIn h u y) ≡ (granted, b) → NoMore b (answerIn h u x)
 unfolding le answerIn
-no-more h u x nan b U l e = absurd (not-granted b e)
-no-more h u x (inf t) b U l e = absurd (not-granted b e)
+no-more h u x nan b U l e = absurd (not-granted ReadingNotARate b e)
+no-more h u x (inf t) b U l e = absurd (not-granted ReadingNotARate b e)
 no-more h u nan (fin t n d) b U l e = inl refl
 no-more h u (inf s) (fin t n d) b U l e = inl refl
 no-more h u (fin s m k) (fin t n d) b U l e =
@@ -115,20 +134,20 @@ same-unit (MillimetresPerHour x) (MillimetresPerHour y) b l e = no-more 1_000 25
 
 pub never-falls : NeverFalls
 never-falls r t a b l e f = elim (same-unit r t b l f) [
-  | inl n ↦ absurd (not-granted a (sym (ap given n) ∙ e))
+  | inl n ↦ absurd (not-granted ReadingNotARate a (sym (ap given n) ∙ e))
   | inr w ↦ le-trans (le-of-eq (ap (λ (p : ℕ × ℕ). p .1) (sym e ∙ w .is))) (w .low)
 ]
 
 pub stays-too-fast : StaysTooFast
 stays-too-fast r t b l e f = elim (same-unit r t b l f) [
-  | inl n ↦ unlike (given (Refused ReadingNotARate)) (given (Refused ReadingTooFast)) (sym (ap given n) ∙ e) (omega arith)
-  | inr w ↦ unlike (given (Refused ReadingTooFast)) (granted, w .rate) (sym e ∙ w .is) (omega arith)
+  | inl n ↦ apart (sym (ap given n) ∙ e)
+  | inr w ↦ not-granted ReadingTooFast (w .rate) (sym e ∙ w .is)
 ]
 
 -- ---- the nearest given back
 
 -- comparing with zero is the definition's test
-compared : (s : Bool) (m : ℕ) (e : ℤ) → noRate (fin s m e) ≡ (s && ltb 0 m)
+compared : (s : Bool) (m : ℕ) (e : ℤ) → notARate (fin s m e) ≡ (s && ltb 0 m)
 unfolding lt
 compared false m e = simp (zero-mul, le-ltb (m * up e * 1) 0 zero-le)
 compared true zero e = simp zero-mul
@@ -136,41 +155,26 @@ compared true (suc m) e =
     let some : 0 < suc m * up e = mul-pos (zero-lt-suc m) (up-pos e) in
     lt-ltb 0 (suc m * up e * 1 + 0 * down e) (omega arith) ∙ sym (lt-ltb 0 (suc m) (zero-lt-suc m))
 
-refused-rate : (i n : ℕ) → (granted ≡ n → ⊥) → given (withinMost i) ≡ (n, 0) → (numberOf ReadingTooFast ≡ n) × (mostRate < i)
-unfolding withinMost
-refused-rate i n d = go (leb i mostRate) (leb-false i mostRate)
-  where
-    go : (b : Bool) → (b ≡ false → mostRate < i) → given (cond b (Granted (record { 0 = i })) (Refused ReadingTooFast)) ≡ (n, 0)
-        → (numberOf ReadingTooFast ≡ n) × (mostRate < i)
-    go true l e = absurd (d (ap (λ (p : ℕ × ℕ). p .0) e))
-    go false l e = (ap (λ (p : ℕ × ℕ). p .0) e, l refl)
-
-eleven-is-not-twelve : numberOf ReadingTooFast ≡ numberOf ReadingNotARate → ⊥
-eleven-is-not-twelve e = omega arith
-
 -- a float that is no rate, and one with a nearest hundredth
-by-none : (h u : ℕ) (x : Float) → noRate x ≡ true → ((a : ℕ) → NearestIn h u x a → ⊥) → ByNearest h u x (Refused ReadingNotARate)
+by-none : (h u : ℕ) (x : Float) → notARate x ≡ true → ((a : ℕ) → NearestIn h u x a → ⊥) → ByNearest h u x (Refused ReadingNotARate)
 by-none h u x none never = record {
-  granted-exactly = λ a. (λ e. absurd (not-granted a e), λ p. absurd (never a (p .0)));
+  granted-exactly = λ a. (λ e. absurd (not-granted ReadingNotARate a e), λ p. absurd (never a (p .0)));
   not-a-rate-exactly = (λ e. none, λ e. refl);
-  too-fast-exactly = (
-    λ e. absurd (unlike (given (Refused ReadingNotARate)) (given (Refused ReadingTooFast)) e (omega arith)),
-    λ p. absurd (never (p .0) (p .1)),
-  );
+  too-fast-exactly = (λ e. absurd (apart e), λ p. absurd (never (p .0) (p .1)));
 }
 
-by-one : (h u : ℕ) (x : Float) (i : ℕ) → noRate x ≡ false → NearestIn h u x i → ((a : ℕ) → NearestIn h u x a → a ≡ i) → ByNearest h u x (withinMost i)
+by-one : (h u : ℕ) (x : Float) (i : ℕ) → notARate x ≡ false → NearestIn h u x i → ((a : ℕ) → NearestIn h u x a → a ≡ i) → ByNearest h u x (withinMost i)
 by-one h u x i some near only = record {
   granted-exactly = λ a. (
     λ e. let g = granted-rate i a e in (subst (NearestIn h u x) (g .0) near, le-trans (le-of-eq (sym (g .0))) (g .1)),
     λ p. let same : a ≡ i = only a (p .0) in rw same (sym (ap given (granted-within i (rw same at (p .1))))),
   );
   not-a-rate-exactly = (
-    λ e. absurd (eleven-is-not-twelve (refused-rate i (numberOf ReadingNotARate) (omega arith) e .0)),
-    λ e. absurd (true≢false (sym e ∙ some)),
+    λ e. absurd (apart (sym (refused-rate i ReadingNotARate e .1))),
+    λ e. absurd (never-both e some),
   );
   too-fast-exactly = (
-    λ e. (i, near, refused-rate i (numberOf ReadingTooFast) (omega arith) e .1),
+    λ e. (i, near, refused-rate i ReadingTooFast e .0),
     λ p. sym (ap given (refused-past i (rw (only (p .0) (p .1)) at (p .2)))),
   );
 }
@@ -184,9 +188,9 @@ by-nearest h u (fin s m e) U = go (s && ltb 0 m) (compared s m e)
     D : 0 < down e * u
     D = mul-pos (down-pos e) U
 
-    go : (t : Bool) → noRate (fin s m e) ≡ t
+    go : (t : Bool) → notARate (fin s m e) ≡ t
         → ByNearest h u (fin s m e) (cond t (Refused ReadingNotARate) (withinMost (hundredths h u m e)))
-    go true t = by-none h u (fin s m e) t (λ a p. true≢false (sym t ∙ p .0))
+    go true t = by-none h u (fin s m e) t (λ a p. never-both t (p .0))
     go false t =
         by-one h u (fin s m e) (hundredths h u m e) t (t, rounded-nearest (m * up e * h) (down e * u) D)
         (λ a p. rounded-only (m * up e * h) (down e * u) a D (p .1))

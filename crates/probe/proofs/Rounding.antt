@@ -24,21 +24,18 @@ pub stays-down : (n d : ℕ) → n % d ≤ d - n % d → n / d ≡ rounded n d
 unfolding rounded
 stays-down n d t = simp (le-ltb _ _ t)
 
-twice : (r d : ℕ) → r * 2 * d ≡ r * d * 2
-twice r d = mul-right-comm r 2 d
-
-twice-and-one : (r d : ℕ) → (r * 2 + 1) * d ≡ r * d * 2 + d
-twice-and-one r d = simp (add-mul, one-mul, twice r d)
-
 one-more : (q d : ℕ) → (q + 1) * d ≡ q * d + d
 one-more q d = simp (add-mul, one-mul)
 
+twice-and-one : (r d : ℕ) → (r * 2 + 1) * d ≡ r * d * 2 + d
+twice-and-one r d = simp (one-more, mul-right-comm r 2 d)
+
 -- with q for n / d and s for n % d
 lower : (n d q s : ℕ) → q * d + s ≡ n → s < d → s ≤ d - s → Nearest n d q
-lower n d q s e l t = rw (twice q d, twice-and-one q d) (omega arith, omega arith)
+lower n d q s e l t = rw (mul-right-comm q 2 d, twice-and-one q d) (omega arith, omega arith)
 
 upper : (n d q s : ℕ) → q * d + s ≡ n → s < d → d - s < s → Nearest n d (q + 1)
-upper n d q s e l t = rw (twice (q + 1) d, twice-and-one (q + 1) d, one-more q d) (omega arith, omega arith)
+upper n d q s e l t = rw (mul-right-comm (q + 1) 2 d, twice-and-one (q + 1) d, one-more q d) (omega arith, omega arith)
 
 pub rounded-nearest : (n d : ℕ) → 0 < d → Nearest n d (rounded n d)
 rounded-nearest n d D = elim (lt-or-le (d - n % d) (n % d)) [
@@ -52,12 +49,12 @@ nearest-rises a b r c d s B D h p q =
     let low : r * 2 * b * d < (a * 2 + b) * d = mul-lt-mul-of-pos-right (p .0) D in
     let high : c * 2 * b ≤ (s * 2 + 1) * d * b = mul-le-mul-right b (q .1) in
     let below : r * (b * d) < (s + 1) * (b * d) =
-    omega (arith, over r b d, add-mul (a * 2) b d, twice a d, twice c b, under s b d, one-more s (b * d)) in
+    omega (arith, over r b d, add-mul (a * 2) b d, mul-right-comm a 2 d, mul-right-comm c 2 b, under s b d, one-more s (b * d)) in
     let less : r < s + 1 = lt-of-mul-lt-mul-right (b * d) below in
     omega arith
   where
     over : (k x y : ℕ) → k * 2 * x * y ≡ k * (x * y) * 2
-    over k x y = mul-assoc (k * 2) x y ∙ twice k (x * y)
+    over k x y = mul-assoc (k * 2) x y ∙ mul-right-comm k 2 (x * y)
 
     under : (k x y : ℕ) → (k * 2 + 1) * y * x ≡ k * (x * y) * 2 + x * y
     under k x y = mul-right-comm (k * 2 + 1) y x ∙ mul-assoc (k * 2 + 1) x y ∙ twice-and-one k (x * y)

@@ -35,10 +35,10 @@ abbrev pub OnlyNearest : Type 0
 OnlyNearest = (n d r : ℕ) → 0 < d → Nearest n d r → r ≡ rounded n d
 
 -- a float that is not a number, infinite, or below zero by comparison; minus zero is not
-abbrev pub noRate : Float → Bool
-noRate nan = true
-noRate (inf minus) = true
-noRate (fin minus m e) = lt (fin minus m e) (fin false 0 (pos 0))
+abbrev pub notARate : Float → Bool
+notARate nan = true
+notARate (inf minus) = true
+notARate (fin minus m e) = lt (fin minus m e) (fin false 0 (pos 0))
 
 -- a is the nearest hundredth of an inch per hour to a float of which so many `units` are so many `hundredths`. The float is a number from
 -- zero up, and its exact value is m * 2 ^ e, where 2 ^ e is the fraction up e / down e.
@@ -46,13 +46,13 @@ abbrev pub NearestIn : ℕ → ℕ → Float → ℕ → Type 0
 NearestIn hundredths units nan a = ⊥
 NearestIn hundredths units (inf minus) a = ⊥
 NearestIn hundredths units (fin minus m e) a =
-    (noRate (fin minus m e) ≡ false) × Nearest (m * up e * hundredths) (down e * units) a
+    (notARate (fin minus m e) ≡ false) × Nearest (m * up e * hundredths) (down e * units) a
 
 -- An answer to such a float: the rate a is granted exactly where it is the nearest hundredth and at most 10,000; 11 is given exactly
 -- where the float is not a number, infinite or below zero, and 12 exactly where its nearest hundredth is above 10,000.
 pub record ByNearest (hundredths units : ℕ) (x : Float) (answer : RateAnswer) : Type 0 where
   pub granted-exactly : (a : ℕ) → (given answer ≡ (granted, a)) ↔ (NearestIn hundredths units x a × (a ≤ mostRate))
-  pub not-a-rate-exactly : (given answer ≡ (numberOf ReadingNotARate, 0)) ↔ (noRate x ≡ true)
+  pub not-a-rate-exactly : (given answer ≡ (numberOf ReadingNotARate, 0)) ↔ (notARate x ≡ true)
   pub too-fast-exactly : (given answer ≡ (numberOf ReadingTooFast, 0)) ↔ ((a : ℕ) × NearestIn hundredths units x a × (mostRate < a))
 
 -- A reading of either unit is so answered: 1 inch is 100 hundredths and, since an inch is 25.4 mm, 254 mm are 10 inches.
