@@ -1,7 +1,8 @@
 //! Runs one job over and over on one side, so that its cost can be counted.
 //!
-//!     measure ours|rust load|credit|size COUNT     the nanoseconds of a job, the least of five rounds of COUNT
-//!     measure text load|credit|size                the job text itself
+//!     measure ours|rust load|credit|size COUNT             the nanoseconds of a job, the least of five rounds of COUNT
+//!     measure ours|rust load|credit|size|refused stack     the bytes of stack that a job takes
+//!     measure text load|credit|size|refused                the job text itself
 //!
 //! The caller lends one buffer for the answer text to every run, and clears it for none.
 
@@ -12,9 +13,17 @@ use bench::generate::{LAND_USES, SOILS};
 use bench::linked;
 use bench::reference;
 
-/// The job text of a kind: the load job of jobs/sample.job, or a credit or a sizing on 32 sub-areas of every
-/// land use and soil.
+type Answer = fn(&[u8], &mut [u8]) -> usize;
+
+/// The longest answer text and more.
+const ROOM: usize = 168;
+
+/// The job text of a kind: the load job of jobs/sample.job, the same with a land use that there is not in its last
+/// line, or a credit or a sizing on 32 sub-areas of every land use and soil.
 fn text(kind: &str) -> String {
+    if kind == "refused" {
+        return text("load").replace("area=for", "area=fir");
+    }
     if kind == "load" {
         return "practice=basin\nnutrient=N\nmode=step\nrate=0\ntask=load\namount=0\n\
                 area=ind,imp,-,1013\narea=com,per,C,185\narea=for,per,C,89\n"
@@ -23,7 +32,7 @@ fn text(kind: &str) -> String {
     let amount = match kind {
         "credit" => 48_155_000_000u64,
         "size" => 70_000,
-        _ => panic!("load, credit or size"),
+        _ => panic!("load, credit, size or refused"),
     };
     let mut text = format!("practice=basin\nnutrient=P\nmode=mix\nrate=39\ntask={}\namount={}\n", kind, amount);
     for k in 0..32 {
@@ -42,19 +51,69 @@ fn opaque<T: Copy>(value: T) -> T {
     unsafe { std::ptr::read_volatile(&value) }
 }
 
+/// The bytes of stack below the caller's that an answer takes. It runs on a stack of its own, which is painted before:
+/// what has lost its paint afterwards was used. Less what calling a function that does nothing uses.
+#[cfg(target_arch = "x86_64")]
+fn stack(answer: Answer, job: &[u8]) -> usize {
+    const SIZE: usize = 1 << 18;
+    struct Call<'a> {
+        answer: Answer,
+        job: &'a [u8],
+        room: [u8; ROOM],
+    }
+    extern "C" fn run(call: &mut Call) {
+        opaque((call.answer)(call.job, &mut call.room));
+    }
+    fn nothing(_: &[u8], _: &mut [u8]) -> usize {
+        0
+    }
+    let used = |answer: Answer, paint: u8| {
+        let mut stack = vec![paint; SIZE];
+        let mut call = Call { answer: opaque(answer), job, room: [0; ROOM] };
+        // Safe: run returns, keeps r12 as every C function does, and takes less than SIZE bytes; the top is aligned to 16.
+        unsafe {
+            let top = stack.as_mut_ptr().add(SIZE);
+            std::arch::asm!(
+                "mov r12, rsp",
+                "mov rsp, {top}",
+                "call {run}",
+                "mov rsp, r12",
+                top = in(reg) top.sub(top as usize % 16),
+                run = in(reg) run as extern "C" fn(&mut Call),
+                in("rdi") &mut call,
+                out("r12") _,
+                clobber_abi("C"),
+            );
+        }
+        SIZE - stack.iter().position(|byte| *byte != paint).expect("a return address")
+    };
+    // A byte that happens to be stored in the colour of the paint is told by another colour.
+    let deepest = |answer| used(answer, 0x5a).max(used(answer, 0xa5));
+    deepest(answer) - deepest(nothing)
+}
+
+#[cfg(not(target_arch = "x86_64"))]
+fn stack(_: Answer, _: &[u8]) -> usize {
+    panic!("the stack is measured on x86-64 alone")
+}
+
 fn main() {
     let words: Vec<String> = std::env::args().skip(1).collect();
     let words: Vec<&str> = words.iter().map(|word| word.as_str()).collect();
-    let (answer, kind, count): (fn(&[u8], &mut [u8]) -> usize, _, u64) = match words[..] {
+    let (answer, kind, asked): (Answer, _, _) = match words[..] {
         #[cfg(feature = "linked")]
-        ["ours", kind, count] => (linked::answer, kind, count.parse().expect("a count")),
-        ["rust", kind, count] => (reference::answer, kind, count.parse().expect("a count")),
+        ["ours", kind, asked] => (linked::answer, kind, asked),
+        ["rust", kind, asked] => (reference::answer, kind, asked),
         ["text", kind] => return print!("{}", text(kind)),
-        _ => panic!("measure ours|rust load|credit|size COUNT, or measure text load|credit|size"),
+        _ => panic!("measure ours|rust load|credit|size|refused COUNT|stack, or measure text load|credit|size|refused"),
     };
-    let answer = opaque(answer);
     let job = text(kind).into_bytes();
-    let mut room = [0; 168];
+    if asked == "stack" {
+        return println!("{}", stack(answer, &job));
+    }
+    let count: u64 = asked.parse().expect("a count");
+    let answer = opaque(answer);
+    let mut room = [0; ROOM];
     let mut least = f64::INFINITY;
     for _ in 0..5 {
         let start = Instant::now();

@@ -1,30 +1,39 @@
 -- The text of each outcome, line by line, its length, and how long it can be.
 -- Assumes nothing.
 use Prim.Native.Nat.{ℕ, _+_, _≤_, _<_, _^_}
-use mathlib.Core.Path.{_≡_, refl, ap}
+use mathlib.Core.Path.{_≡_, refl, sym, ap}
 use mathlib.Core.Bool.{false}
-use mathlib.Core.List.{List, [], _∷_, flatten, reverse}
+use mathlib.Core.List.{List, [], _∷_, flatten, append-assoc}
+use native.Mathlib.Nat.{le-trans}
 use native.Mathlib.Omega.{arith}
-use lib.Dec.{eqb, lit<}
+use lib.Dec.{eqb, ltb, lit<}
 use lib.ListN.{length, length-append}
-use borrow.Author.Tests.{ne-eqb}
+use borrow.Author.Tests.{ne-eqb, le-ltb}
 use Rattle.laws.specs.Text.{bytes}
 use Rattle.refusal.specs.declared.Refusal.{Refusal}
 use Rattle.refusal.specs.declared.Refusal.the-variants as refused
 use Rattle.refusal.specs.Refusal.{numberOf, granted}
 use Rattle.refusal.proofs.Numbers.{number-range, refusal-not-granted}
 use Rattle.credit.specs.declared.Figures.{Figures}
+use Rattle.text.specs.Pieces.{lineFeed}
 use Rattle.text.specs.Numbers.{decimalOf}
 use Rattle.answer.specs.declared.Outcome.the-variants.{Granted, Refused, BadSheet}
 use Rattle.answer.specs.Outcomes.{given}
 use Rattle.answer.specs.Lines.{lineOf, grantedLines, answerText, longest, longestRefused}
-use Rattle.answer.specs.Inner.{Room, Put}
 use Rattle.answer.specs.Promises.{Wide}
-use Rattle.answer.proofs.Digits.{one-digit, few-digits, word-digits}
-use Rattle.answer.proofs.Putting.{Lined, lined-none, lined-all}
+use Rattle.writing.proofs.Digits.{one-digit, few-digits, word-digits}
+use Rattle.writing.proofs.Rest.{Begun, begun-none}
 
 never-granted : (why : Refusal) → eqb (numberOf why) granted ≡ false
 never-granted why = ne-eqb (numberOf why) granted (refusal-not-granted why)
+
+-- a line, piece by piece
+abbrev pub linePieces : List ℕ → ℕ → List (List ℕ)
+linePieces key n = key ∷ decimalOf n ∷ (lineFeed ∷ []) ∷ []
+
+pub line-begun : (d key : List ℕ) (n : ℕ) → length (lineOf key n) ≤ length d → Begun d (lineOf key n) (linePieces key n) d 0
+unfolding lineOf flatten
+line-begun d key n h = begun-none (linePieces key n) (append-assoc key (decimalOf n) (lineFeed ∷ [])) h
 
 -- the text of a granted outcome, line by line, and its length
 module _ (f : Figures) where
@@ -32,12 +41,8 @@ module _ (f : Figures) where
   unfolding answerText
   granted-text = refl
 
-  module _ {d : List ℕ} {end : ℕ} where
-    pub granted-starts : Room d (answerText (Granted f)) end → Lined d end (reverse (grantedLines (given (Granted f)))) [] d end
-    granted-starts r = lined-none (reverse (grantedLines (given (Granted f)))) granted-text r
-
-    pub granted-ends : {after : List ℕ} {start : ℕ} → Lined d end [] (grantedLines (given (Granted f))) after start → Put d (answerText (Granted f)) end after start
-    granted-ends s = lined-all granted-text s
+  pub granted-begun : (d : List ℕ) → length (answerText (Granted f)) ≤ length d → Begun d (answerText (Granted f)) (grantedLines (given (Granted f))) d 0
+  granted-begun d h = begun-none (grantedLines (given (Granted f))) granted-text h
 
   pub granted-length : length (answerText (Granted f))
       ≡ 47 + length (decimalOf (f .load .0)) + length (decimalOf (f .depth .0)) + length (decimalOf (f .percent .0)) + length (decimalOf (f .volume .0)) + length (decimalOf (f .removed .0))
@@ -56,18 +61,24 @@ module _ (f : Figures) where
       let removed = word-digits (f .removed .0) (w .removed) in
       omega arith
 
+  -- so many bytes as the longest text has are not too few
+  pub granted-long-enough : {len : ℕ} → Wide (Granted f) → longest ≤ len → false ≡ ltb len (length (answerText (Granted f)))
+  granted-long-enough {len} w h = sym (le-ltb len (length (answerText (Granted f))) (le-trans (granted-longest w) h))
+
 -- and those of a refused one
+abbrev pub numberAndLine : ℕ → ℕ → List (List ℕ)
+numberAndLine number k = lineOf (bytes "answer=") number ∷ lineOf (bytes "line=") k ∷ []
+
 module _ (why : Refusal) (k : ℕ) where
-  refused-text : {number : ℕ} → number ≡ numberOf why → answerText (Refused why k) ≡ flatten (lineOf (bytes "answer=") number ∷ lineOf (bytes "line=") k ∷ [])
+  refused-text : {number : ℕ} → number ≡ numberOf why → answerText (Refused why k) ≡ flatten (numberAndLine number k)
   unfolding answerText
   refused-text e = rw (never-granted why, e)
 
-  module _ {d : List ℕ} {end number : ℕ} (e : number ≡ numberOf why) where
-    pub refused-starts : Room d (answerText (Refused why k)) end → Lined d end (lineOf (bytes "line=") k ∷ lineOf (bytes "answer=") number ∷ []) [] d end
-    refused-starts r = lined-none (lineOf (bytes "line=") k ∷ lineOf (bytes "answer=") number ∷ []) (refused-text e) r
-
-    pub refused-ends : {after : List ℕ} {start : ℕ} → Lined d end [] (lineOf (bytes "answer=") number ∷ lineOf (bytes "line=") k ∷ []) after start → Put d (answerText (Refused why k)) end after start
-    refused-ends s = lined-all (refused-text e) s
+  pub refused-begun : (d : List ℕ) {number : ℕ}
+      → number ≡ numberOf why
+      → length (answerText (Refused why k)) ≤ length d
+      → Begun d (answerText (Refused why k)) (numberAndLine number k) d 0
+  refused-begun d {number} e h = begun-none (numberAndLine number k) (refused-text e) h
 
   pub refused-length : length (answerText (Refused why k)) ≡ 14 + length (decimalOf (numberOf why)) + length (decimalOf k)
   unfolding flatten lineOf

@@ -14,7 +14,7 @@ use Rattle.answer.specs.declared.Outcome.{Outcome}
 use Rattle.answer.specs.declared.Outcome.the-variants.{Granted, Refused}
 use Rattle.answer.specs.Outcomes.{given, faultLine}
 use Rattle.answer.specs.Lines.{answerText, longest, longestRefused}
-use Rattle.answer.specs.Writing.{writtenOf, bufferOf, writtenGiven}
+use Rattle.writing.specs.Writing.{writtenOf, bufferOf, writtenGiven}
 
 -- an outcome in memory: its line and its figures are numbers of 64 bits
 pub record Wide (o : Outcome) : Type 0 where

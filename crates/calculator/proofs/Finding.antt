@@ -22,9 +22,9 @@ use Rattle.job.specs.declared.Reading.{Reading}
 use Rattle.job.specs.Reading.{readingOf}
 use Rattle.answer.specs.declared.Outcome.{Outcome}
 use Rattle.answer.specs.declared.Outcome.the-variants.{Granted, Refused, BadSheet}
-use Rattle.answer.specs.declared.Written.{Written}
+use Rattle.writing.specs.declared.Written.{Written}
 use Rattle.answer.specs.Lines.{answerText}
-use Rattle.answer.specs.Writing.{writtenOf, bufferOf}
+use Rattle.writing.specs.Writing.{writtenOf, bufferOf}
 use Rattle.calculator.specs.Outcome.{ofLoad, ofCredit, ofLoadJob, ofTask, outcomeOf}
 
 module _ {found : LoadAnswer} where

@@ -17,7 +17,7 @@ use Rattle.answer.specs.declared.Outcome.{Outcome}
 use Rattle.answer.specs.declared.Outcome.the-variants.{Granted, Refused, BadSheet}
 use Rattle.answer.specs.Outcomes.{given, faultLine}
 use Rattle.answer.specs.Lines.{answerText}
-use Rattle.answer.specs.Writing.{pasted, writtenOf, bufferOf, writtenGiven}
+use Rattle.writing.specs.Writing.{pasted, writtenOf, bufferOf, writtenGiven}
 use Rattle.calculator.specs.Outcome.{outcomeOf}
 use Rattle.calculator.specs.Promises.{Zeros, EveryTextAnswered, UnreadIsRefused, BufferKept}
 

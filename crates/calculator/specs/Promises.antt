@@ -25,7 +25,7 @@ use Rattle.job.specs.declared.JobAnswer.the-variants as job
 use Rattle.job.specs.Reading.{readingOf, given as readingGiven}
 use Rattle.answer.specs.Outcomes.{given, faultLine}
 use Rattle.answer.specs.Lines.{answerText}
-use Rattle.answer.specs.Writing.{writtenOf, bufferOf, writtenGiven}
+use Rattle.writing.specs.Writing.{writtenOf, bufferOf, writtenGiven}
 use Rattle.calculator.specs.Outcome.{byTables, outcomeOf}
 
 -- what a job text gives back: the number and the values, and the line of a refusal

@@ -3,10 +3,9 @@
 ghost use mathlib.Core.Path.{_≡_};
 ghost use Rattle.credit.specs.Answers.{Sheet, answerOf};
 ghost use Rattle.answer.specs.Lines.{answerText};
-ghost use Rattle.answer.specs.Writing.{writtenOf, bufferOf};
+ghost use Rattle.writing.specs.Writing.{writtenOf, bufferOf};
 ghost use Rattle.calculator.specs.Outcome.{ofLoad, ofCredit, ofLoadJob, ofTask, byTables, byLent, outcomeOf};
 use answer::Outcome;
-use answer::Written;
 use credit::CreditAnswer;
 use credit::Figures;
 use credit::Wanted;
@@ -20,6 +19,7 @@ use units::Depth;
 use units::Load;
 use units::Percent;
 use units::Volume;
+use writing::Written;
 
 // A load's outcome: the other figures are 0.
 fn of_load(found: LoadAnswer) -> Outcome

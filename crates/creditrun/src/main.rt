@@ -1,7 +1,7 @@
 // Rules, "Job and answer text": the program reads a job from standard input and prints its answer.
-use answer::Written;
 use libc::STDIN_FILENO;
 use libc::STDOUT_FILENO;
+use writing::Written;
 
 fn main() {
     // One byte more than the longest job text, so that a longer one is told from it.

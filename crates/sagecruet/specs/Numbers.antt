@@ -14,8 +14,8 @@ use Rattle.probe.specs.declared.Reading.the-variants.{InchesPerHour, Millimetre
 use Rattle.probe.specs.declared.RateAnswer.{RateAnswer}
 use Rattle.probe.specs.Readings.{given as rateGiven}
 use Rattle.job.specs.declared.Span.{Span}
-use Rattle.answer.specs.declared.Written.{Written}
-use Rattle.answer.specs.Writing.{writtenGiven}
+use Rattle.writing.specs.declared.Written.{Written}
+use Rattle.writing.specs.Writing.{writtenGiven}
 use Rattle.sagecruet.specs.declared.Part.{Part}
 use Rattle.sagecruet.specs.declared.Verdict.{Verdict}
 use Rattle.sagecruet.specs.declared.Value.{Value}

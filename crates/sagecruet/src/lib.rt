@@ -5,10 +5,9 @@ ghost use Rattle.curve.specs.Answers.{percentAnswer};
 ghost use Rattle.probe.specs.Readings.{rateOf};
 ghost use Rattle.job.specs.Fault.{faultOf};
 ghost use Rattle.answer.specs.Lines.{answerText};
-ghost use Rattle.answer.specs.Writing.{writtenOf, bufferOf};
+ghost use Rattle.writing.specs.Writing.{writtenOf, bufferOf};
 ghost use Rattle.calculator.specs.Outcome.{byTables, byLent, outcomeOf};
 ghost use Rattle.sagecruet.specs.Numbers.{ofWritten, ofSpan, ofVerdict, ofPercent, ofRate, modeOf, readingIn};
-use answer::Written;
 use curve::Mode;
 use curve::PercentAnswer;
 use probe::RateAnswer;
@@ -16,6 +15,7 @@ use probe::Reading;
 use refusal::Refusal;
 use units::Depth;
 use units::Rate;
+use writing::Written;
 
 // A part of a job text: the place of its first byte, and its length.
 #[repr(C)]

@@ -1,16 +1,16 @@
--- `answer::put_number` meets its contract: each turn stores the last digit of what is left, and leaves the digits of its tenth.
+-- `writing::fill` meets its contract: each turn stores the last digit of what is left, and leaves the digits of its tenth.
 -- Assumes nothing.
 use borrow.Author.Needs.{needs}
 use native.Mathlib.Omega.{arith}
-use Rattle.answer.proofs.Digits.{some-digit, Spelled, spelled-none, spelled-inside, spelled-next, spelled-all}
-use Rattle.answer.proofs.put_number.Statement.{statement}
-use Rattle.answer.proofs.put_number.Tie as tie
+use Rattle.writing.proofs.Digits.{some-digit, Spelled, spelled-none, spelled-inside, spelled-next, spelled-all}
+use Rattle.writing.proofs.fill.Statement.{statement}
+use Rattle.writing.proofs.fill.Tie as tie
 
 abbrev Inv-loop : tie.InvT-loop
-Inv-loop n buf₀ end at₀ rest₀ buf at rest = Spelled buf₀ n end buf rest at
+Inv-loop n part₀ at₀ rest₀ part at rest = Spelled part₀ n part rest at
 
 abbrev μ-loop : tie.MeasureT-loop
-μ-loop n buf₀ end at₀ rest₀ buf at rest = rest
+μ-loop n part₀ at₀ rest₀ part at rest = rest
 
 sub-at : tie.Need-sub-at Inv-loop μ-loop
 sub-at c = let some = some-digit (c .before .args .n) in omega arith
@@ -21,8 +21,8 @@ loop-holds c = search (spelled-none, needs)
 digit-requires : tie.Need-digit-requires Inv-loop μ-loop
 digit-requires c κs = search needs
 
-slice-write-buf : tie.Need-slice-write-buf Inv-loop μ-loop
-slice-write-buf c = search needs
+slice-write-part : tie.Need-slice-write-part Inv-loop μ-loop
+slice-write-part c = search needs
 
 sub-at-2 : tie.Need-sub-at-2 Inv-loop μ-loop
 sub-at-2 c = search (spelled-inside, needs)
@@ -36,8 +36,8 @@ loop-again c = search (spelled-next, needs)
 digit-requires-2 : tie.Need-digit-requires-2 Inv-loop μ-loop
 digit-requires-2 c κs = search needs
 
-slice-write-buf-2 : tie.Need-slice-write-buf-2 Inv-loop μ-loop
-slice-write-buf-2 c = search needs
+slice-write-part-2 : tie.Need-slice-write-part-2 Inv-loop μ-loop
+slice-write-part-2 c = search needs
 
 same-length : tie.Need-same-length Inv-loop μ-loop
 same-length c = search needs
@@ -45,8 +45,8 @@ same-length c = search needs
 returns : tie.Need-returns Inv-loop μ-loop
 returns c = search (spelled-all, needs)
 
-pub put-number-spec : {M : Type 1} → statement M
-put-number-spec =
+pub fill-spec : {M : Type 1} → statement M
+fill-spec =
     tie.close
     (tie.spec
     Inv-loop
@@ -54,11 +54,11 @@ put-number-spec =
     sub-at
     loop-holds
     digit-requires
-    slice-write-buf
+    slice-write-part
     sub-at-2
     loop-less
     loop-again
     digit-requires-2
-    slice-write-buf-2
+    slice-write-part-2
     same-length
     returns)

@@ -7,8 +7,8 @@ use lib.Dec.{ltb}
 use lib.ListN.{length, take, drop}
 use Rattle.refusal.specs.declared.Refusal.the-variants.{BufferTooShort}
 use Rattle.refusal.specs.Refusal.{numberOf, granted}
-use Rattle.answer.specs.declared.Written.{Written}
-use Rattle.answer.specs.declared.Written.the-variants.{Granted, Refused}
+use Rattle.writing.specs.declared.Written.{Written}
+use Rattle.writing.specs.declared.Written.the-variants.{Granted, Refused}
 
 -- a buffer with a text written over it from a place on: what stands before that place, and what stands behind the text, is as it was
 unfoldable pub pasted : List ℕ → ℕ → List ℕ → List ℕ
@@ -21,6 +21,10 @@ tooShort buf text = ltb (length buf) (length text)
 -- what writing a text into a buffer answers: the text's length, or the refusal
 unfoldable pub writtenOf : List ℕ → List ℕ → Written
 writtenOf buf text = cond (tooShort buf text) (Refused BufferTooShort) (Granted (length text))
+
+-- what putting it there answers where no refusal is given: the text's length, or 0
+unfoldable pub putLength : List ℕ → List ℕ → ℕ
+putLength buf text = cond (tooShort buf text) 0 (length text)
 
 -- what the buffer holds afterwards: refused, what it held
 unfoldable pub bufferOf : List ℕ → List ℕ → List ℕ

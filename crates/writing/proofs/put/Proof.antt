@@ -1,29 +1,27 @@
--- `answer::put` meets its contract: with each turn one byte more of the text stands at its place.
+-- `writing::put` meets its contract: with each turn one byte more of the text stands at its place.
 -- Assumes nothing.
 use Prim.Native.Nat.{_-_}
 use borrow.Author.Needs.{needs}
 use lib.ListN.{length}
-use Rattle.answer.proofs.Pasting.{Copied, copied-none, copied-next, copied-all}
-use Rattle.answer.proofs.put.Statement.{statement}
-use Rattle.answer.proofs.put.Tie as tie
+use Rattle.writing.proofs.Writing.{short-by, refused-length, refused-buffer}
+use Rattle.writing.proofs.Copying.{Copied, copied-none, copied-next, copied-length, copied-buffer}
+use Rattle.writing.proofs.put.Statement.{statement}
+use Rattle.writing.proofs.put.Tie as tie
 
 abbrev Inv-loop : tie.InvT-loop
-Inv-loop s buf₀ end start i₀ buf i = Copied buf₀ s start buf i
+Inv-loop s buf₀ i₀ buf i = Copied buf₀ s buf i
 
 abbrev μ-loop : tie.MeasureT-loop
-μ-loop s buf₀ end start i₀ buf i = length s - i
+μ-loop s buf₀ i₀ buf i = length s - i
 
-sub-start : tie.Need-sub-start Inv-loop μ-loop
-sub-start c = search needs
+returns : tie.Need-returns Inv-loop μ-loop
+returns c = (search (refused-length, short-by, needs), search (refused-buffer, short-by, needs))
 
 loop-holds : tie.Need-loop-holds Inv-loop μ-loop
-loop-holds c = copied-none (search needs)
+loop-holds c = search (copied-none, needs)
 
 shared-slice-read-buf : tie.Need-shared-slice-read-buf Inv-loop μ-loop
 shared-slice-read-buf c = search needs
-
-add-buf : tie.Need-add-buf Inv-loop μ-loop
-add-buf c = search needs
 
 slice-write-buf : tie.Need-slice-write-buf Inv-loop μ-loop
 slice-write-buf c = search needs
@@ -35,13 +33,13 @@ loop-less : tie.Need-loop-less Inv-loop μ-loop
 loop-less c = search needs
 
 loop-again : tie.Need-loop-again Inv-loop μ-loop
-loop-again c = copied-next (c .before .before .loop .inv) (search needs)
+loop-again c = search (copied-next, needs)
 
 same-length : tie.Need-same-length Inv-loop μ-loop
 same-length c = search needs
 
-returns : tie.Need-returns Inv-loop μ-loop
-returns c = copied-all (c .before .loop .inv) (search needs) (search needs)
+returns-2 : tie.Need-returns-2 Inv-loop μ-loop
+returns-2 c = (search (copied-length, needs), search (copied-buffer, needs))
 
 pub put-spec : {M : Type 1} → statement M
 put-spec =
@@ -49,13 +47,12 @@ put-spec =
     (tie.spec
     Inv-loop
     μ-loop
-    sub-start
+    returns
     loop-holds
     shared-slice-read-buf
-    add-buf
     slice-write-buf
     add-i
     loop-less
     loop-again
     same-length
-    returns)
+    returns-2)

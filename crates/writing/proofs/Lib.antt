@@ -1,0 +1,4 @@
+pub mod Writing
+pub mod Digits
+pub mod Copying
+pub mod Rest
