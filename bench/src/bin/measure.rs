@@ -1,6 +1,6 @@
 //! Runs one job over and over on one side, so that its cost can be counted.
 //!
-//!     measure ours|rust load|credit|size COUNT             the nanoseconds of a job, the least of five rounds of COUNT
+//!     measure ours|rust load|credit|size|refused COUNT     the nanoseconds of a job, the least of five rounds of COUNT
 //!     measure ours|rust load|credit|size|refused stack     the bytes of stack that a job takes
 //!     measure text load|credit|size|refused                the job text itself
 //!
@@ -18,8 +18,8 @@ type Answer = fn(&[u8], &mut [u8]) -> usize;
 /// The longest answer text and more.
 const ROOM: usize = 168;
 
-/// The job text of a kind: the load job of jobs/sample.job, the same with a land use that there is not in its last
-/// line, or a credit or a sizing on 32 sub-areas of every land use and soil.
+/// The job text of a kind: the load job of jobs/sample.job, the same with a land use that does not exist in its
+/// last line, or a credit or a sizing on 32 sub-areas of every land use and soil.
 fn text(kind: &str) -> String {
     if kind == "refused" {
         return text("load").replace("area=for", "area=fir");
@@ -51,8 +51,9 @@ fn opaque<T: Copy>(value: T) -> T {
     unsafe { std::ptr::read_volatile(&value) }
 }
 
-/// The bytes of stack below the caller's that an answer takes. It runs on a stack of its own, which is painted before:
-/// what has lost its paint afterwards was used. Less what calling a function that does nothing uses.
+/// The bytes of stack below the caller's that an answer takes. It runs on a stack of its own, which is painted
+/// beforehand: what has lost its paint afterwards was used. Less what calling a function that does nothing uses. Bytes
+/// that a function reserves and never writes do not show below its deepest call.
 #[cfg(target_arch = "x86_64")]
 fn stack(answer: Answer, job: &[u8]) -> usize {
     const SIZE: usize = 1 << 18;
@@ -68,11 +69,12 @@ fn stack(answer: Answer, job: &[u8]) -> usize {
         0
     }
     let used = |answer: Answer, paint: u8| {
-        let mut stack = vec![paint; SIZE];
+        let mut painted = vec![paint; SIZE];
         let mut call = Call { answer: opaque(answer), job, room: [0; ROOM] };
-        // Safe: run returns, keeps r12 as every C function does, and takes less than SIZE bytes; the top is aligned to 16.
+        // Safe where it takes less than SIZE bytes: run returns and keeps r12, as every C function does, and the top is
+        // aligned to 16.
         unsafe {
-            let top = stack.as_mut_ptr().add(SIZE);
+            let top = painted.as_mut_ptr().add(SIZE);
             std::arch::asm!(
                 "mov r12, rsp",
                 "mov rsp, {top}",
@@ -85,9 +87,12 @@ fn stack(answer: Answer, job: &[u8]) -> usize {
                 clobber_abi("C"),
             );
         }
-        SIZE - stack.iter().position(|byte| *byte != paint).expect("a return address")
+        let lowest = painted.iter().position(|byte| *byte != paint).expect("a return address");
+        assert_ne!(lowest, 0, "the stack was too small");
+        SIZE - lowest
     };
-    // A byte that happens to be stored in the colour of the paint is told by another colour.
+    // A byte that is stored in the paint's own colour shows under the other one. What a first call alone does is done.
+    opaque(answer(job, &mut [0; ROOM]));
     let deepest = |answer| used(answer, 0x5a).max(used(answer, 0xa5));
     deepest(answer) - deepest(nothing)
 }

@@ -18,7 +18,7 @@ use Rattle.answer.specs.Lines.{lineOf, answerText}
 use Rattle.writing.specs.Writing.{pasted, writtenOf, bufferOf, writtenGiven}
 use Rattle.answer.specs.Promises.{NeverLonger, LongestReached, RefusedShorter, OnlyTooShort, LongestSuffices, RefusedKeeps, GrantedHolds}
 use Rattle.answer.proofs.Texts.{granted-longest, refused-longest, sheet-text}
-use Rattle.writing.proofs.Writing.{short-by, long-by, refused-answer, refused-buffer, granted-answer}
+use Rattle.writing.proofs.Writing.{refused-answer, refused-buffer, granted-answer}
 
 pub refused-shorter : RefusedShorter
 refused-shorter = refused-longest
@@ -36,10 +36,10 @@ longest-reached = refl
 
 -- the number and the value by the two lengths
 too-short : (buf text : List ℕ) → length buf < length text → writtenGiven (writtenOf buf text) ≡ (numberOf BufferTooShort, 0)
-too-short buf text h = rw (← refused-answer buf text (short-by buf text refl h))
+too-short buf text h = rw (← refused-answer buf text h)
 
 long-enough : (buf text : List ℕ) → length text ≤ length buf → writtenGiven (writtenOf buf text) ≡ (granted, length text)
-long-enough buf text h = rw (← granted-answer buf text (long-by buf text refl h))
+long-enough buf text h = rw (← granted-answer buf text h)
 
 pub only-too-short : OnlyTooShort
 only-too-short buf text = (
@@ -55,7 +55,7 @@ pub longest-suffices : LongestSuffices
 longest-suffices o buf w h = long-enough buf (answerText o) (le-trans (never-longer o w) h)
 
 pub refused-keeps : RefusedKeeps
-refused-keeps buf text h = sym (refused-buffer buf text (short-by buf text refl h))
+refused-keeps buf text h = sym (refused-buffer buf text h)
 
 pub granted-holds : GrantedHolds
 unfolding bufferOf pasted

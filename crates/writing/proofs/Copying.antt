@@ -2,14 +2,14 @@
 -- Assumes nothing.
 use Prim.Native.Nat.{ℕ, suc, _+_, _≤_, _<_}
 use mathlib.Core.Path.{_≡_, refl, sym, _∙_}
-use mathlib.Core.List.{List, _∷_, _++_}
+use mathlib.Core.List.{List, _++_}
 use native.Mathlib.Nat.{le-antisymm}
 use native.Mathlib.Numerals.{add-one}
 use native.Mathlib.Omega.{arith}
 use lib.ListN.{length, getD, take, drop, set, length-set}
 use lib.Seq.{length-take-le, take-all, take-suc, drop-cons, append-snoc, set-at}
 use Rattle.writing.specs.Writing.{putLength, bufferOf}
-use Rattle.writing.proofs.Writing.{pasted-start, long-by, granted-length, granted-buffer}
+use Rattle.writing.proofs.Writing.{pasted-start, granted-length, granted-buffer}
 
 -- the first i bytes of s have been put over those of the buffer d
 pub record Copied (d s after : List ℕ) (i : ℕ) : Type 0 where
@@ -42,9 +42,9 @@ module _ {d s : List ℕ} where
         }
 
     pub copied-length : length s ≡ putLength d s
-    copied-length = granted-length d s (long-by d s refl (p .fits))
+    copied-length = granted-length d s (p .fits)
 
     pub copied-buffer : length s ≤ i → after ≡ bufferOf d s
     copied-buffer h =
         let all : i ≡ length s = le-antisymm (p .within) h in
-        (p .holds ∙ rw (all, take-all (length s) s (omega arith)) (pasted-start d s)) ∙ granted-buffer d s (long-by d s refl (p .fits))
+        (p .holds ∙ rw (all, take-all (length s) s (omega arith)) (pasted-start d s)) ∙ granted-buffer d s (p .fits)

@@ -3,7 +3,6 @@
 use Prim.Native.Nat.{ℕ, zero, suc, _+_, _-_, _*_, _/_, _%_, _^_, _≤_, _<_}
 use mathlib.Core.Path.{_≡_, refl, sym, _∙_, ap}
 use mathlib.Core.List.{List, [], _∷_, _++_, append-assoc, append-nil}
-use mathlib.Core.Bool.{false}
 use mathlib.Core.Logic.{⊎-elim}
 use native.Mathlib.Numerals.{add-one}
 use native.Mathlib.Nat.{pow-suc, one-le-pow, div-lt-iff-lt-mul, le-div-iff-mul-le}
@@ -14,8 +13,8 @@ use lib.Seq.{length-take-le, drop-length, set-split, drop-at}
 use borrow.Author.Tests.{lt-ltb, le-ltb}
 use Rattle.laws.proofs.Order.{lt-or-le}
 use Rattle.text.specs.Numbers.{digitZero, decimalFrom, decimalOf}
-use Rattle.writing.specs.Writing.{tooShort, putLength, bufferOf}
-use Rattle.writing.proofs.Writing.{pasted-start, long-by, granted-length, granted-buffer}
+use Rattle.writing.specs.Writing.{putLength, bufferOf}
+use Rattle.writing.proofs.Writing.{pasted-start, granted-length, granted-buffer}
 
 -- how far the digits are looked for does not matter, once it is far enough
 far-enough : (k j n : ℕ) → n ≤ k → n ≤ j → decimalFrom k n ≡ decimalFrom j n
@@ -181,8 +180,8 @@ module _ {d₀ : List ℕ} {n : ℕ} {d : List ℕ} {rest at : ℕ} (p : Spelled
 
 -- a number of one digit is stored
 module _ {n : ℕ} (d : List ℕ) (h : n < 10) (g : 0 < length d) where
-  one-fits : tooShort d (decimalOf n) ≡ false
-  one-fits = long-by d (decimalOf n) (sym (ap length (one-digit n h))) g
+  one-fits : length (decimalOf n) ≤ length d
+  one-fits = rw (one-digit n h) g
 
   pub digit-length : 1 ≡ putLength d (decimalOf n)
   digit-length = sym (ap length (one-digit n h)) ∙ granted-length d (decimalOf n) one-fits

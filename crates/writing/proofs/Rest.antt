@@ -11,7 +11,7 @@ use mir.Val.{Fits}
 use lib.ListN.{length, take, drop, set, take-append-drop, length-append, length-drop}
 use lib.Seq.{take-at, drop-at, drop-drop, drop-append-le, length-take-le, append-snoc, set-split}
 use Rattle.writing.specs.Writing.{pasted, putLength, bufferOf}
-use Rattle.writing.proofs.Writing.{long-by, granted-length, granted-buffer}
+use Rattle.writing.proofs.Writing.{granted-length, granted-buffer, part-long}
 
 -- A text over a buffer, and then another right behind it, is the two as one text over it. Every piece that is put rests on this.
 pasted-after : (d : List ℕ) (at : ℕ) (t u : List ℕ) → at + length t ≤ length d → pasted (pasted d at t) (at + length t) u ≡ pasted d at (t ++ u)
@@ -50,21 +50,28 @@ unfolding pasted
 pasted-byte d at b h = set-split d at b h ∙ rw (add-one at, append-snoc (take at d) b (drop (suc at) d))
 
 -- the part of a buffer that is lent on from a place, so long, and the buffer with other bytes in that part
-abbrev pub partOf : List ℕ → ℕ → ℕ → List ℕ
+abbrev partOf : List ℕ → ℕ → ℕ → List ℕ
 partOf d at k = take k (drop at d)
 
-abbrev pub withPart : List ℕ → ℕ → ℕ → List ℕ → List ℕ
+abbrev withPart : List ℕ → ℕ → ℕ → List ℕ → List ℕ
 withPart d at k part = take at d ++ (part ++ drop k (drop at d))
 
+-- and where that part is all of the rest
+abbrev pub restOf : List ℕ → ℕ → List ℕ
+restOf d at = partOf d at (length d - at)
+
+abbrev pub withRest : List ℕ → ℕ → List ℕ → List ℕ
+withRest d at part = withPart d at (length d - at) part
+
 module _ (d : List ℕ) (at k : ℕ) (h : at + k ≤ length d) where
-  part-long : length (partOf d at k) ≡ k
-  part-long = length-take-le k (drop at d) (rw (length-drop at d) (omega arith))
+  part-size : length (partOf d at k) ≡ k
+  part-size = length-take-le k (drop at d) (rw (length-drop at d) (omega arith))
 
   -- a text over the start of the part is one over the buffer from there on
   part-pasted : (t : List ℕ) → length t ≤ k → withPart d at k (pasted (partOf d at k) 0 t) ≡ pasted d at t
   unfolding pasted
   part-pasted t g =
-      let l = part-long in
+      let l = part-size in
       rw (
         zero-add (length t),
         append-assoc t (drop (length t) (partOf d at k)) (drop k (drop at d)),
@@ -111,12 +118,12 @@ module _ {d₀ text t : List ℕ} {left : List (List ℕ)} {d : List ℕ} {at : 
       let a = length-append t (flatten left) in
       omega arith
 
-  pub rest-fits : length t ≤ length (partOf d at (length d - at))
-  rest-fits = let r = room in rw (part-long d at (length d - at) (omega arith)) (omega arith)
+  pub rest-fits : length t ≤ length (restOf d at)
+  rest-fits = let r = room in rw (part-size d at (length d - at) (omega arith)) (omega arith)
 
-  one-more : {after : List ℕ} {next : ℕ} → after ≡ pasted d at t → next ≡ at + length t → Begun d₀ text left after next
+  piece-put : {after : List ℕ} {next : ℕ} → after ≡ pasted d at t → next ≡ at + length t → Begun d₀ text left after next
   unfolding flatten
-  one-more {after} {next} e f =
+  piece-put {after} {next} e f =
       let q = p .place in
       let a = length-append t (flatten left) in
       record {
@@ -126,16 +133,16 @@ module _ {d₀ text t : List ℕ} {left : List (List ℕ)} {d : List ℕ} {at : 
         holds = rw (e, f, pasted-after d at t (flatten left) room) (p .holds);
       }
 
-  -- into all of the rest, of which its length is answered
+  -- into all of the rest, and its length is answered
   pub begun-rest : {part : List ℕ} {r : ℕ}
-      → r ≡ putLength (partOf d at (length d - at)) t
-      → part ≡ bufferOf (partOf d at (length d - at)) t
-      → Begun d₀ text left (withPart d at (length d - at) part) (at + r)
+      → r ≡ putLength (restOf d at) t
+      → part ≡ bufferOf (restOf d at) t
+      → Begun d₀ text left (withRest d at part) (at + r)
   begun-rest {part} {r} a b =
       let m = room in
-      one-more
-      (rw (b, ← granted-buffer (partOf d at (length d - at)) t (long-by (partOf d at (length d - at)) t refl rest-fits)) (part-pasted d at (length d - at) (omega arith) t (omega arith)))
-      (rw (a, ← granted-length (partOf d at (length d - at)) t (long-by (partOf d at (length d - at)) t refl rest-fits)))
+      piece-put
+      (rw (b, ← granted-buffer (restOf d at) t rest-fits) (part-pasted d at (length d - at) (omega arith) t (omega arith)))
+      (rw (a, ← granted-length (restOf d at) t rest-fits))
 
 -- a piece of one byte is stored
 module _ {d₀ text : List ℕ} {b : ℕ} {left : List (List ℕ)} {d : List ℕ} {at : ℕ} (p : Begun d₀ text ((b ∷ []) ∷ left) d at) where
@@ -143,7 +150,7 @@ module _ {d₀ text : List ℕ} {b : ℕ} {left : List (List ℕ)} {d : List ℕ
   byte-within = let r = room p in omega arith
 
   pub begun-byte : Begun d₀ text left (set d at b) (at + 1)
-  begun-byte = one-more p (pasted-byte d at b byte-within) refl
+  begun-byte = piece-put p (pasted-byte d at b byte-within) refl
 
 -- the first piece goes into the whole buffer, or into a part that is as long as it is
 module _ {d₀ text t : List ℕ} {left : List (List ℕ)} {d : List ℕ} (p : Begun d₀ text (t ∷ left) d 0) where
@@ -152,18 +159,18 @@ module _ {d₀ text t : List ℕ} {left : List (List ℕ)} {d : List ℕ} (p : B
 
   pub begun-first : {after : List ℕ} {r : ℕ} → r ≡ putLength d t → after ≡ bufferOf d t → Begun d₀ text left after r
   begun-first {after} {r} a b =
-      one-more p
-      (b ∙ sym (granted-buffer d t (long-by d t refl first-fits)))
-      (rw (a, ← granted-length d t (long-by d t refl first-fits)) (sym (zero-add (length t))))
+      piece-put p
+      (b ∙ sym (granted-buffer d t first-fits))
+      (rw (a, ← granted-length d t first-fits) (sym (zero-add (length t))))
 
   pub first-long : length t ≡ length (take (length t) d)
-  first-long = sym (length-take-le (length t) d first-fits)
+  first-long = part-long d t refl first-fits
 
   pub begun-part : {part : List ℕ} → part ≡ bufferOf (take (length t) d) t → Begun d₀ text left (part ++ drop (length t) d) (length t)
   begun-part {part} b =
       let l = first-long in
-      one-more p
-      (rw (b, ← granted-buffer (take (length t) d) t (long-by (take (length t) d) t refl (omega arith))) (part-pasted d 0 (length t) (room p) t (omega arith)))
+      piece-put p
+      (rw (b, ← granted-buffer (take (length t) d) t (omega arith)) (part-pasted d 0 (length t) (room p) t (omega arith)))
       (sym (zero-add (length t)))
 
 -- the buffer and the place when these pieces are left
@@ -178,20 +185,19 @@ module _ {d₀ text t : List ℕ} {left : List (List ℕ)} {part : List ℕ} whe
   exact {d} p b = (part ++ drop (length t) d, length t, begun-part p b)
 
   abbrev pub next : {r : ℕ} (s : Stage d₀ text (t ∷ left))
-      → r ≡ putLength (partOf (s .0) (s .1) (length (s .0) - s .1)) t
-      → part ≡ bufferOf (partOf (s .0) (s .1) (length (s .0) - s .1)) t
+      → r ≡ putLength (restOf (s .0) (s .1)) t
+      → part ≡ bufferOf (restOf (s .0) (s .1)) t
       → Stage d₀ text left
-  next {r} s a b = (withPart (s .0) (s .1) (length (s .0) - s .1) part, s .1 + r, begun-rest (s .2) a b)
+  next {r} s a b = (withRest (s .0) (s .1) part, s .1 + r, begun-rest (s .2) a b)
 
 -- no piece is left
 module _ {d₀ text d : List ℕ} {at : ℕ} (p : Begun d₀ text [] d at) where
   pub begun-length : at ≡ putLength d₀ text
   unfolding flatten
   begun-length =
-      let f = p .fits in
       let all : at ≡ length text = sym (add-zero at) ∙ p .place in
-      all ∙ granted-length d₀ text (long-by d₀ text refl f)
+      all ∙ granted-length d₀ text (p .fits)
 
   pub begun-buffer : d ≡ bufferOf d₀ text
   unfolding flatten
-  begun-buffer = (sym (pasted-none d at) ∙ p .holds) ∙ granted-buffer d₀ text (long-by d₀ text refl (p .fits))
+  begun-buffer = (sym (pasted-none d at) ∙ p .holds) ∙ granted-buffer d₀ text (p .fits)

@@ -1,13 +1,13 @@
 -- What writing and putting a text answer, and the buffer afterwards, where it is too short and where it is not.
 -- Assumes nothing.
 use Prim.Native.Nat.{ℕ, _≤_, _<_}
-use mathlib.Core.Path.{_≡_, refl, sym, _∙_}
+use mathlib.Core.Path.{_≡_, sym, _∙_}
 use mathlib.Core.Bool.{Bool, true, false}
 use mathlib.Core.List.{List, _++_}
 use native.Mathlib.Nat.{zero-add}
 use lib.ListN.{length, take, drop}
 use lib.Seq.{length-take-le}
-use borrow.Author.Tests.{lt-ltb, le-ltb, ltb-false}
+use borrow.Author.Tests.{lt-ltb, le-ltb, ltb-true, ltb-false}
 use Rattle.refusal.specs.declared.Refusal.the-variants.{BufferTooShort}
 use Rattle.writing.specs.declared.Written.the-variants.{Granted, Refused}
 use Rattle.writing.specs.Writing.{pasted, tooShort, writtenOf, putLength, bufferOf}
@@ -17,44 +17,36 @@ pub pasted-start : (d t : List ℕ) → t ++ drop (length t) d ≡ pasted d 0 t
 unfolding pasted
 pasted-start d t = rw (zero-add (length t))
 
--- too short or not, by the lengths, and by what a test of them answered
 module _ (d t : List ℕ) where
-  pub short-by : {size : ℕ} → size ≡ length t → length d < size → tooShort d t ≡ true
-  short-by e h = lt-ltb (length d) (length t) (rw e at h)
+  -- which of the two it is, by what a test of the lengths answered
+  module _ {answer : Bool} (e : answer ≡ tooShort d t) where
+    pub short-told : answer ≡ true → length d < length t
+    short-told h = ltb-true (length d) (length t) (sym e ∙ h)
 
-  pub long-by : {size : ℕ} → size ≡ length t → size ≤ length d → tooShort d t ≡ false
-  long-by e h = le-ltb (length d) (length t) (rw e at h)
+    pub long-told : answer ≡ false → length t ≤ length d
+    long-told h = ltb-false (length d) (length t) (sym e ∙ h)
 
-  pub short-told : {answer : Bool} → answer ≡ tooShort d t → answer ≡ true → tooShort d t ≡ true
-  short-told e h = sym e ∙ h
-
-  pub long-told : {answer : Bool} → answer ≡ tooShort d t → answer ≡ false → tooShort d t ≡ false
-  long-told e h = sym e ∙ h
-
-  module _ (short : tooShort d t ≡ true) where
+  module _ (h : length d < length t) where
     pub refused-answer : Refused BufferTooShort ≡ writtenOf d t
     unfolding writtenOf
-    refused-answer = rw short
+    refused-answer = rw (lt-ltb (length d) (length t) h)
 
     pub refused-length : 0 ≡ putLength d t
     unfolding putLength
-    refused-length = rw short
+    refused-length = rw (lt-ltb (length d) (length t) h)
 
     pub refused-buffer : d ≡ bufferOf d t
     unfolding bufferOf
-    refused-buffer = rw short
+    refused-buffer = rw (lt-ltb (length d) (length t) h)
 
-  module _ (long : tooShort d t ≡ false) where
-    pub room-for : length t ≤ length d
-    room-for = ltb-false (length d) (length t) long
-
+  module _ (h : length t ≤ length d) where
     pub granted-answer : Granted (length t) ≡ writtenOf d t
     unfolding writtenOf
-    granted-answer = rw long
+    granted-answer = rw (le-ltb (length d) (length t) h)
 
     pub granted-length : length t ≡ putLength d t
     unfolding putLength
-    granted-length = rw long
+    granted-length = rw (le-ltb (length d) (length t) h)
 
     -- with the length that putting the text answered
     pub granted-put : {r : ℕ} → r ≡ putLength d t → Granted r ≡ writtenOf d t
@@ -62,18 +54,22 @@ module _ (d t : List ℕ) where
 
     pub granted-buffer : pasted d 0 t ≡ bufferOf d t
     unfolding bufferOf
-    granted-buffer = rw long
+    granted-buffer = rw (le-ltb (length d) (length t) h)
 
--- a part of so many bytes, the first of a buffer, is filled with a text of that length
-module _ (d t : List ℕ) {size : ℕ} (e : size ≡ length t) (h : size ≤ length d) where
-  pub part-long : size ≡ length (take size d)
-  part-long = sym (length-take-le size d h)
+-- a text of so many bytes, and a part of so many, the first of a buffer, that is filled with it
+module _ (d t : List ℕ) {size : ℕ} (e : size ≡ length t) where
+  pub no-part : length d < size → length d < length t
+  no-part h = rw (← e) h
 
-  pub part-fits : length (take size d) ≡ length t
-  part-fits = sym part-long ∙ e
+  module _ (h : size ≤ length d) where
+    pub part-long : size ≡ length (take size d)
+    part-long = sym (length-take-le size d h)
 
-  pub part-length : size ≡ putLength d t
-  part-length = e ∙ granted-length d t (long-by d t e h)
+    pub part-fits : length (take size d) ≡ length t
+    part-fits = sym part-long ∙ e
 
-  pub part-buffer : {part : List ℕ} → part ≡ t → part ++ drop size d ≡ bufferOf d t
-  part-buffer f = rw (f, e) (pasted-start d t) ∙ granted-buffer d t (long-by d t e h)
+    pub part-length : size ≡ putLength d t
+    part-length = e ∙ granted-length d t (rw (← e) h)
+
+    pub part-buffer : {part : List ℕ} → part ≡ t → part ++ drop size d ≡ bufferOf d t
+    part-buffer f = rw (f, e) (pasted-start d t) ∙ granted-buffer d t (rw (← e) h)

@@ -1,4 +1,4 @@
--- Rules, "The numbers given back": writing the answer text, whose only refusal is 13, for a buffer that is shorter than the text.
+-- Rules, "The numbers given back": writing a text into a lent buffer; the only refusal is 13, for a buffer that is shorter than the text.
 -- Assumes nothing.
 use Prim.Native.Nat.{ℕ, _+_}
 use mathlib.Core.Bool.{Bool, cond}
@@ -22,7 +22,7 @@ tooShort buf text = ltb (length buf) (length text)
 unfoldable pub writtenOf : List ℕ → List ℕ → Written
 writtenOf buf text = cond (tooShort buf text) (Refused BufferTooShort) (Granted (length text))
 
--- what putting it there answers where no refusal is given: the text's length, or 0
+-- what a call answers that puts a text into a buffer and refuses nothing: the text's length, or 0 where it does not fit
 unfoldable pub putLength : List ℕ → List ℕ → ℕ
 putLength buf text = cond (tooShort buf text) 0 (length text)
 

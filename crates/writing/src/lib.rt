@@ -51,7 +51,7 @@ pub fn put(s: &[u8], buf: &mut [u8]) -> usize
 }
 
 // The same for the digits of n: how many there are is worked out first, and they fill the part of buf that is lent on.
-// A single one, which most numbers of a load job have, is stored without that.
+// A single one is stored without that.
 pub fn put_number(n: u64, buf: &mut [u8]) -> usize
     ensures { λ r. ⌜ r ≡ putLength (now (buf .entry)) (decimalOf n) ⌝ }
     ensures { λ _. ⌜ now (buf .exit) ≡ bufferOf (now (buf .entry)) (decimalOf n) ⌝ }

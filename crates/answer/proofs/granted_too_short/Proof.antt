@@ -1,6 +1,5 @@
 -- `answer::granted_too_short` meets its contract: no text is longer than the longest.
 -- Assumes nothing.
-use Prim.Native.Nat.{ℕ}
 use mathlib.Core.Path.{ap}
 use borrow.Author.Needs.{needs}
 use lib.Dec.{ltb}

@@ -4,7 +4,7 @@ use Prim.Native.Nat.{ℕ}
 use borrow.Author.Needs.{needs}
 use lib.ListN.{drop}
 use Rattle.refusal.proofs.number.Reads as number-reads
-use Rattle.writing.proofs.Rest.{Begun, Stage, first, next, first-fits, rest-fits, rest-within, begun-fits, begun-length, begun-buffer}
+use Rattle.writing.proofs.Rest.{Stage, first, next, first-fits, rest-fits, rest-within, begun-fits, begun-length, begun-buffer}
 use Rattle.answer.specs.declared.Outcome.the-variants.{Refused}
 use Rattle.answer.specs.Lines.{answerText}
 use Rattle.answer.proofs.Texts.{numberAndLine, refused-begun}

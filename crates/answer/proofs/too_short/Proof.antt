@@ -1,4 +1,4 @@
--- `answer::too_short` meets its contract: each outcome has the length of its own lines.
+-- `answer::too_short` meets its contract: each outcome is judged by the length of its own lines.
 -- Assumes nothing.
 use borrow.Author.Needs.{needs}
 use Rattle.answer.specs.Lines.{answerText}

@@ -1,7 +1,7 @@
 -- `answer::write` meets its contract: that the text fits is settled before anything is put.
 -- Assumes nothing.
 use borrow.Author.Needs.{needs}
-use Rattle.writing.proofs.Writing.{short-told, long-told, room-for, refused-answer, refused-buffer, granted-put}
+use Rattle.writing.proofs.Writing.{short-told, long-told, refused-answer, refused-buffer, granted-put}
 use Rattle.answer.proofs.write.Statement.{statement}
 use Rattle.answer.proofs.write.Tie as tie
 
@@ -12,7 +12,7 @@ returns : tie.Need-returns
 returns c = (search (refused-answer, short-told, needs), search (refused-buffer, short-told, needs))
 
 put-text-requires : tie.Need-put-text-requires
-put-text-requires c κs = search (room-for, long-told, needs)
+put-text-requires c κs = search (long-told, needs)
 
 same-length : tie.Need-same-length
 same-length c = search needs

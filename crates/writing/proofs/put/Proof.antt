@@ -3,7 +3,7 @@
 use Prim.Native.Nat.{_-_}
 use borrow.Author.Needs.{needs}
 use lib.ListN.{length}
-use Rattle.writing.proofs.Writing.{short-by, refused-length, refused-buffer}
+use Rattle.writing.proofs.Writing.{refused-length, refused-buffer}
 use Rattle.writing.proofs.Copying.{Copied, copied-none, copied-next, copied-length, copied-buffer}
 use Rattle.writing.proofs.put.Statement.{statement}
 use Rattle.writing.proofs.put.Tie as tie
@@ -15,7 +15,7 @@ abbrev μ-loop : tie.MeasureT-loop
 μ-loop s buf₀ i₀ buf i = length s - i
 
 returns : tie.Need-returns Inv-loop μ-loop
-returns c = (search (refused-length, short-by, needs), search (refused-buffer, short-by, needs))
+returns c = (search (refused-length, needs), search (refused-buffer, needs))
 
 loop-holds : tie.Need-loop-holds Inv-loop μ-loop
 loop-holds c = search (copied-none, needs)

@@ -1,7 +1,7 @@
 -- `writing::put_number` meets its contract: the part that is lent on is as long as the digits, and holds them afterwards.
 -- Assumes nothing.
 use borrow.Author.Needs.{needs}
-use Rattle.writing.proofs.Writing.{short-by, refused-length, refused-buffer, part-long, part-fits, part-length, part-buffer}
+use Rattle.writing.proofs.Writing.{refused-length, refused-buffer, no-part, part-long, part-fits, part-length, part-buffer}
 use Rattle.writing.proofs.Digits.{digit-length, digit-buffer}
 use Rattle.writing.proofs.put_number.Statement.{statement}
 use Rattle.writing.proofs.put_number.Tie as tie
@@ -22,7 +22,7 @@ width-requires : tie.Need-width-requires
 width-requires c κs = search needs
 
 returns-2 : tie.Need-returns-2
-returns-2 c = (search (refused-length, short-by, needs), search (refused-buffer, short-by, needs))
+returns-2 c = (search (refused-length, no-part, needs), search (refused-buffer, no-part, needs))
 
 slice-relend-prefix-fill : tie.Need-slice-relend-prefix-fill
 slice-relend-prefix-fill c = search needs
