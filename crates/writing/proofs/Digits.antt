@@ -178,15 +178,15 @@ module _ {d₀ : List ℕ} {n : ℕ} {d : List ℕ} {rest at : ℕ} (p : Spelled
       let here : 0 ≡ at = omega arith in
       rw (← here) ((rw (← here) at (stored b)) ∙ (rw (one-digit rest h, ← e, ← here) at (p .holds)))
 
--- a number of one digit is stored
-module _ {n : ℕ} (d : List ℕ) (h : n < 10) (g : 0 < length d) where
+-- a number of one digit is stored in a buffer that has a place
+module _ {n place : ℕ} (d : List ℕ) (h : n < 10) (g : place < length d) where
   one-fits : length (decimalOf n) ≤ length d
-  one-fits = rw (one-digit n h) g
+  one-fits = rw (one-digit n h) (omega arith)
 
   pub digit-length : 1 ≡ putLength d (decimalOf n)
   digit-length = sym (ap length (one-digit n h)) ∙ granted-length d (decimalOf n) one-fits
 
   pub digit-buffer : {b : ℕ} → b ≡ digitZero + n → set d 0 b ≡ bufferOf d (decimalOf n)
   digit-buffer {b} e =
-      rw (set-split d 0 b g, e)
+      rw (set-split d 0 b (omega arith), e)
       (rw (one-digit n h) (pasted-start d ((digitZero + n) ∷ [])) ∙ granted-buffer d (decimalOf n) one-fits)
