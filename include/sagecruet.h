@@ -64,7 +64,7 @@ extern "C" {
 #endif
 
 /* The bytes that hold any answer text. */
-#define SAGECRUET_ROOM 147
+#define SAGECRUET_ROOM 161
 
 /* The bytes of the longest job text; a longer one is refused 1. */
 #define SAGECRUET_LONGEST_JOB 4096
@@ -112,7 +112,27 @@ struct sagecruet_verdict {
     uint64_t place;
 };
 
-/* A number given back, and the value that was asked for: 0 beside a refusal. */
+/* The basis of a percent: how it was found. sagecruet_percent gives the number, an answer text the word, as `basis=WORD`;
+ * the word stands first behind each number. It goes by the depth, and not by the percent that comes out. */
+enum sagecruet_basis {
+    SAGECRUET_BASIS_NONE = 0,    /* none: no percent was asked for, or it was refused. */
+    SAGECRUET_BASIS_PRINTED = 1, /* printed: the depth is one of the sheet's, and no two rates are mixed. */
+    SAGECRUET_BASIS_BETWEEN = 2, /* between: another depth from the first to the last, or any of them where rates mix. */
+    SAGECRUET_BASIS_START = 3,   /* start: a depth below the first, 0 among them. */
+    SAGECRUET_BASIS_HELD = 4     /* held: a depth beyond the last, whose percent is kept. */
+};
+
+/* A number given back, the percent that was asked for, and its basis, by the number above. Beside a refusal both are 0.
+ * Beside SAGECRUET_UNFIT_SHEET `list` and `place` are those of struct sagecruet_verdict; else they are 0. */
+struct sagecruet_percent_answer {
+    uint64_t answer;
+    uint64_t percent;
+    uint64_t basis;
+    uint64_t list;
+    uint64_t place;
+};
+
+/* A number given back, and the rate that was asked for: 0 beside a refusal. */
 struct sagecruet_value {
     uint64_t answer;
     uint64_t value;
@@ -124,17 +144,19 @@ struct sagecruet_value {
  * byte of `text` changes. Where `text_len` is less than the answer text needs (refusal 13), 0 is returned and `text`
  * keeps every byte. SAGECRUET_ROOM bytes are room enough for any answer.
  *
- * A granted job answers six lines, a refused one two:
+ * A granted job answers seven lines, a refused one two:
  *
  *     answer=0            answer=7
  *     load=1568350        line=0
  *     depth=0
  *     credit=0
+ *     basis=none
  *     volume=0
  *     removed=0
  *
- * They are the load of the site; the depth that was used; the percent at that depth; the volume, which is the amount of
- * a credit and the design volume of a size; and the load that is removed. A load job has 0 from `depth` on.
+ * They are the load of the site; the depth that was used; the percent at that depth; its basis, a word of enum
+ * sagecruet_basis; the volume, which is the amount of a credit and the design volume of a size; and the load that is
+ * removed. A load job has 0 from `depth` on, and the basis none.
  *
  * `line` counts from 1 and is the line of the job in which a 1, 2, 3 or 14 arose; a missing line has the number that it
  * would have. It is 0 beside every other refusal, and where the text is too long. */
@@ -160,20 +182,21 @@ struct sagecruet_verdict sagecruet_sheet(const uint64_t *depths, size_t depths_l
                                          const uint64_t *rates, size_t rates_len,
                                          const uint64_t *percents, size_t percents_len);
 
-/* The percent of a sheet at a rate and a depth. The curve of a rate is a straight line from depth 0 and percent 0 to the
- * first depth, and from each depth to the next; beyond the last depth it keeps the last percent. With `mix` false the
- * percent is on the curve of the fastest rate that is not above `rate`; with `mix` true it is on the straight line
- * between the curves of the two rates beside it, and from the fastest rate on it is on that one's curve alone. It is
- * rounded down once, at the end. Refusals, tried in this order:
+/* The percent of a sheet at a rate and a depth, and its basis. The curve of a rate is a straight line from depth 0 and
+ * percent 0 to the first depth, and from each depth to the next; beyond the last depth it keeps the last percent. With
+ * `mix` false the percent is on the curve of the fastest rate that is not above `rate`; with `mix` true it is on the
+ * straight line between the curves of the two rates beside it, and from the fastest rate on it is on that one's curve
+ * alone. Rates are mixed where `mix` is true and `rate` is strictly between two of the sheet's. The percent is rounded
+ * down once, at the end. Refusals, tried in this order:
  *
- *   5   the sheet breaks a rule; sagecruet_sheet tells the list and the place
+ *   5   the sheet breaks a rule; the list and the place are given as sagecruet_sheet gives them
  *   6   the rate is above 10,000, or it is not 0 on a sheet with the single rate 0
  *   7   the rate is below the slowest of the sheet
  *   9   the depth is above 200 */
-struct sagecruet_value sagecruet_percent(const uint64_t *depths, size_t depths_len,
-                                         const uint64_t *rates, size_t rates_len,
-                                         const uint64_t *percents, size_t percents_len,
-                                         bool mix, uint64_t rate, uint64_t depth);
+struct sagecruet_percent_answer sagecruet_percent(const uint64_t *depths, size_t depths_len,
+                                                  const uint64_t *rates, size_t rates_len,
+                                                  const uint64_t *percents, size_t percents_len,
+                                                  bool mix, uint64_t rate, uint64_t depth);
 
 /* The rate of a probe reading, which is in millimetres per hour with `millimetres` true and in inches per hour with it
  * false: the hundredth of an inch per hour that is nearest to its exact value, an exact half going down. So 0.52f

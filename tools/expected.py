@@ -6,7 +6,8 @@
 The program prints lines of a word and whole numbers, with single spaces between them. Numbers stand for things as the
 rules number them: practices 0 to 8; nutrients P 0, N 1; modes step 0, mix 1; land uses com, ind, hdr, mdr, ldr, hwy,
 for, open, ag 0 to 8; soils A, B, C, CD, D, U 0 to 5, and 6 for impervious cover; soil columns A, B, C, CD, D 0 to 4.
-ANSWER is the number given back, 0 on every line but one; the values beside a refusal would be zeros. In this order:
+ANSWER is the number given back, 0 on every line but one; the values beside a refusal would be zeros. BASIS is how the
+percent before it was found: printed 1, between 2, start 3, held 4 (none 0 would stand beside a refusal). In this order:
 
     runoff COLUMN RAIN NUMBER
         the rules' three numbers (A at 55, CD at 110, D at 200), then every number of Table 3-4, row by row, columns in
@@ -14,6 +15,10 @@ ANSWER is the number given back, 0 on every line but one; the values beside a re
 
     sheet ANSWER LIST PLACE
         the test of the rules' sheet T with 65000 read as 35000
+
+    basis MODE RATE DEPTH PERCENT BASIS
+        the percents of the rules' sheet T and how they were found, at every depth 0 to 200 in turn: in mode step at rate
+        50, then in mode mix at the rates 25, 26, 50, 74, 75 and 76
 
     reading ANSWER RATE
         seven lines: 0.25 and 0.5 inches per hour, 127 millimetres per hour, 0.52 and 1.02 inches per hour, 6.858 and
@@ -27,8 +32,9 @@ ANSWER is the number given back, 0 on every line but one; the values beside a re
         every rate of Tables 3-1 and 3-2: the load of one acre (area 100), for each nutrient, land use and soil, the
         soils 0 to 6 in turn
 
-    point PRACTICE NUTRIENT MODE RATE DEPTH PERCENT ANSWER DEPTH CREDIT REMOVED ANSWER DEPTH CREDIT VOLUME REMOVED
-        every printed percent of Tables 3-6 to 3-25 but 3-22, for each practice, nutrient, mode, rate and depth in turn,
+    point PRACTICE NUTRIENT MODE RATE DEPTH PERCENT BASIS ANSWER DEPTH CREDIT BASIS REMOVED
+          ANSWER DEPTH CREDIT BASIS VOLUME REMOVED
+        on one line: every printed percent of Tables 3-6 to 3-25 but 3-22, for each practice, nutrient, mode, rate and depth in turn,
         rates and depths in the tables' order: the percent of the published sheet there; then the answer of crediting
         the volume V(DEPTH) on a site of one commercial impervious acre (area 100); then the answer of sizing on that
         site with the printed percent for the target
@@ -41,8 +47,14 @@ from math import ceil, floor
 from document import COLUMNS, LAND_USES, NUTRIENTS, PRACTICES, Document, words_for
 
 GRID = range(201)
+MODES = ("step", "mix")
+BASES = ("none", "printed", "between", "start", "held")
 SOILS = COLUMNS + ("U",)
 FULL = 100_000
+
+# the rules' sheet T, and the modes and rates at which its bases are told
+T = [20, 60, 100], [25, 75], [20000, 50000, 70000, 40000, 65000, 80000]
+TOLD = (("step", 50), ("mix", 25), ("mix", 26), ("mix", 50), ("mix", 74), ("mix", 75), ("mix", 76))
 
 # an inch in inches and in millimetres, and the readings by what a probe shows in that unit
 INCHES, MILLIMETRES = Fraction(1), Fraction(254, 10)
@@ -102,6 +114,28 @@ def percent(sheet, mode, rate, depth):
     return floor(low)
 
 
+def mixes(sheet, mode, rate):
+    """Mixing means a site rate strictly between two sheet rates in mode mix."""
+    _, rates, _ = sheet
+    return mode == "mix" and any(r < rate for r in rates) and any(r > rate for r in rates) and rate not in rates
+
+
+def basis(sheet, mode, rate, depth):
+    """The number of how the percent of a sheet at a rate and a depth is found: start for depths below the first, including
+    0; held beyond the last; printed where the depth is one of the sheet's and no mixing took place; between for other depths
+    from the first to the last."""
+    depths, _, _ = sheet
+    if depth < min(depths):
+        word = "start"
+    elif depth > max(depths):
+        word = "held"
+    elif depth in depths and not mixes(sheet, mode, rate):
+        word = "printed"
+    else:
+        word = "between"
+    return BASES.index(word)
+
+
 def volume(rows, parts, depth):
     """V(d) of sub-areas (land use, soil or None, area)."""
     return 121 * sum(area * (300 * depth if soil is None else runoff(rows, column(soil), depth)) for _, soil, area in parts)
@@ -129,6 +163,12 @@ def nearest(value):
     return ceil(value - Fraction(1, 2))
 
 
+def bases_of_t():
+    for mode, rate in TOLD:
+        for depth in GRID:
+            yield "basis", MODES.index(mode), rate, depth, percent(T, mode, rate, depth), basis(T, mode, rate, depth)
+
+
 def output(document):
     rows = document.runoff_rows()
     for soil, rain in (("A", 55), ("CD", 110), ("D", 200)):
@@ -137,6 +177,7 @@ def output(document):
         for place, soil in enumerate(COLUMNS):
             yield "runoff", place, row[0], runoff(rows, soil, row[0])
     yield ("sheet", *first_break([20, 60, 100], [25, 75], [20000, 50000, 70000, 40000, 35000, 80000]))
+    yield from bases_of_t()
     for shown, unit in READINGS:
         yield "reading", 0, nearest(100 * value_sent(shown) / unit)
 
@@ -156,7 +197,7 @@ def output(document):
             if first_break(*sheet) != (0, 0, 0):
                 raise SystemExit(f"the sheet of {PRACTICES[practice][0]} breaks a rule")
             load = sum(area * export_rate(rates[nutrient], use, soil) for use, soil, area in acre)
-            for m, mode in enumerate(("step", "mix")):
+            for m, mode in enumerate(MODES):
                 for row, rate in enumerate(own_rates):
                     for place, depth in enumerate(depths):
                         printed = percents[row * len(depths) + place]
@@ -169,9 +210,9 @@ def output(document):
                         least = min(d for d in GRID if percent(sheet, mode, rate, d) >= printed)
                         sized = percent(sheet, mode, rate, least)
                         yield (
-                            "point", practice, n, m, rate, depth, here,
-                            0, reached, credit, load * credit // FULL,
-                            0, least, sized, volume(rows, acre, least), load * sized // FULL,
+                            "point", practice, n, m, rate, depth, here, basis(sheet, mode, rate, depth),
+                            0, reached, credit, basis(sheet, mode, rate, reached), load * credit // FULL,
+                            0, least, sized, basis(sheet, mode, rate, least), volume(rows, acre, least), load * sized // FULL,
                         )
 
 

@@ -10,6 +10,8 @@ pub const LAND_USES: [&str; 9] = ["com", "ind", "hdr", "mdr", "ldr", "hwy", "for
 pub const SOILS: [&str; 7] = ["A", "B", "C", "CD", "D", "U", "-"];
 
 const RATES: [u64; 14] = [0, 1, 16, 17, 26, 27, 39, 52, 102, 240, 241, 827, 10_000, 10_001];
+/// The largest number that a job can say, of 14 digits.
+const MOST_NUMBER: u64 = 99_999_999_999_999;
 const KEYS: [&str; 7] = ["practice=", "nutrient=", "mode=", "rate=", "task=", "amount=", "area="];
 
 /// Numbers at and about the limits, and numbers with too many digits or a leading zero.
@@ -27,9 +29,9 @@ fn digits(random: &mut Random) -> String {
     random.below(most).to_string()
 }
 
-fn sub_area(random: &mut Random, area: u64) -> String {
+fn sub_area(random: &mut Random, area: u64, paved: bool) -> String {
     let land_use = random.pick(&LAND_USES);
-    if random.one_in(2) {
+    if paved || random.one_in(2) {
         format!("area={},imp,-,{}\n", land_use, area)
     } else {
         format!("area={},per,{},{}\n", land_use, random.pick(&SOILS[..6]), area)
@@ -60,33 +62,47 @@ fn areas(random: &mut Random) -> Vec<u64> {
 
 /// A job text of the right form, most often one that is granted.
 pub fn job(random: &mut Random) -> Vec<u8> {
-    let practice = random.below(9) as usize;
-    let without_rates = practice >= 2;
+    let (practice, nutrient) = (random.below(9) as usize, random.below(2) as usize);
+    let sheet = PUBLISHED[practice][nutrient];
     let rate = match random.below(10) {
         0 => random.pick(&RATES),
-        _ if without_rates => 0,
+        _ if sheet.rates == [0] => 0,
         1 => 10_000 - random.below(200),
+        2 => random.pick(sheet.rates),
         _ => random.within(17, 900),
     };
+    job_on(random, practice, nutrient, sheet, rate)
+}
+
+/// A job text for a sheet, with a rate. Now and then the whole site is paved, and the volume of a credit just that of a
+/// depth of the sheet, or one unit less; and now and then the target of a size is a percent of the sheet.
+fn job_on(random: &mut Random, practice: usize, nutrient: usize, sheet: Sheet, rate: u64) -> Vec<u8> {
     let task = random.pick(&["load", "credit", "credit", "size", "size"]);
     let areas = areas(random);
+    let total: u64 = areas.iter().sum();
+    let paved = random.one_in(4);
     let amount = match (task, random.below(12)) {
         (_, 0) => random.pick(&[0, 1, 100_000, 100_001, 10_000_000_000_000, 10_000_000_000_001, 99_999_999_999_999]),
         ("load", _) => 0,
-        ("credit", _) => random.below(121 * 300 * 210 * areas.iter().sum::<u64>().max(1)),
+        ("credit", _) if paved && !sheet.depths.is_empty() => {
+            let volume = 121 * 300 * random.pick(sheet.depths).min(201) * total;
+            volume.saturating_sub(random.one_in(4) as u64)
+        }
+        ("credit", _) => random.below(121 * 300 * 210 * total.max(1)),
+        (_, 1..=3) if !sheet.percents.is_empty() => random.pick(sheet.percents) % (MOST_NUMBER + 1),
         _ => random.below(100_001),
     };
     let mut text = format!(
         "practice={}\nnutrient={}\nmode={}\nrate={}\ntask={}\namount={}\n",
         PRACTICES[practice],
-        random.pick(&["P", "N"]),
+        ["P", "N"][nutrient],
         random.pick(&["step", "mix"]),
         rate,
         task,
         amount,
     );
     for area in areas {
-        text += &sub_area(random, area);
+        text += &sub_area(random, area, paved);
     }
     text.into_bytes()
 }
@@ -127,7 +143,7 @@ fn harm(random: &mut Random, mut text: Vec<u8>) -> Vec<u8> {
             if random.one_in(2) {
                 while text.len() < length {
                     let area = random.within(1, 999);
-                    text.extend_from_slice(sub_area(random, area).as_bytes());
+                    text.extend_from_slice(sub_area(random, area, false).as_bytes());
                 }
             }
             text.resize(length, odd);
@@ -278,11 +294,9 @@ pub fn rate_for(random: &mut Random, sheet: Sheet) -> u64 {
 
 /// A job for a lent sheet: its rate is near the sheet's, its practice is anything.
 pub fn job_for(random: &mut Random, sheet: Sheet) -> Vec<u8> {
-    let text = job(random);
-    let rate = rate_for(random, sheet);
-    let mut lines: Vec<Vec<u8>> = text.split_inclusive(|&b| b == b'\n').map(|l| l.to_vec()).collect();
-    lines[3] = format!("rate={}\n", rate % 100_000_000_000_000).into_bytes();
-    let text = lines.concat();
+    let (practice, nutrient) = (random.below(9) as usize, random.below(2) as usize);
+    let rate = rate_for(random, sheet) % (MOST_NUMBER + 1);
+    let text = job_on(random, practice, nutrient, sheet, rate);
     if random.one_in(10) {
         harm(random, text)
     } else {
@@ -290,10 +304,18 @@ pub fn job_for(random: &mut Random, sheet: Sheet) -> Vec<u8> {
     }
 }
 
-/// A depth: on the grid, at its end, or beyond.
-pub fn depth(random: &mut Random) -> u64 {
+/// A depth for a sheet: at or beside one of its own depths, anywhere on the grid, at its end, or beyond.
+pub fn depth_for(random: &mut Random, sheet: Sheet) -> u64 {
     match random.below(12) {
         0 => random.pick(&[0, 1, 199, 200, 201, 202, 65_536, u64::MAX]),
+        1..=6 if !sheet.depths.is_empty() => {
+            let near = random.pick(sheet.depths);
+            match random.below(4) {
+                0 => near.saturating_add(1),
+                1 => near.saturating_sub(1),
+                _ => near,
+            }
+        }
         _ => random.below(201),
     }
 }
@@ -330,6 +352,66 @@ pub fn reading(random: &mut Random) -> f32 {
             let halves = random.below(20_004) as f32;
             let edge = halves / if random.one_in(2) { 200.0 } else { 200.0 / 25.4 };
             about(random, edge)
+        }
+    }
+}
+
+#[cfg(test)]
+mod tests {
+    use super::*;
+    use crate::{reference, Basis, ROOM};
+
+    const COUNT: u64 = 20_000;
+
+    /// Each basis is met by at least one in fifty of the percents, mixed or not, and at a depth of the sheet or not.
+    #[test]
+    fn percents_meet_each_basis() {
+        let mut random = Random::from(8);
+        let mut seen = [0; 5];
+        let (mut mixed, mut mixed_at_a_depth, mut lists) = (0, 0, [0; 4]);
+        for n in 0..COUNT {
+            let own = if n % 3 == 0 { broken_sheet(&mut random) } else { sheet(&mut random) };
+            let lent = own.lend();
+            let (mix, rate, depth) = (random.one_in(2), rate_for(&mut random, lent), depth_for(&mut random, lent));
+            let found = reference::percent(lent, mix, rate, depth);
+            seen[found.basis as usize] += 1;
+            if found.answer == 5 {
+                lists[found.list as usize] += 1;
+            }
+            let between = lent.rates.windows(2).any(|pair| pair[0] < rate && rate < pair[1]);
+            if found.answer == 0 && mix && between {
+                mixed += 1;
+                mixed_at_a_depth += lent.depths.contains(&depth) as u64;
+            }
+        }
+        assert!(seen.iter().all(|&count| count >= COUNT / 50), "{:?}", seen);
+        assert!(lists.iter().all(|&count| count >= COUNT / 200), "{:?}", lists);
+        assert!(mixed >= COUNT / 20 && mixed_at_a_depth >= COUNT / 50, "{} {}", mixed, mixed_at_a_depth);
+    }
+
+    /// So are the bases of granted jobs on lent sheets, and on the published ones, whose last depth is the deepest.
+    #[test]
+    fn jobs_meet_each_basis() {
+        let mut random = Random::from(8);
+        for lending in [false, true] {
+            let mut seen = [0; 5];
+            for _ in 0..COUNT {
+                let mut text = [0; ROOM];
+                let length = if lending {
+                    let own = sheet(&mut random);
+                    let job = job_for(&mut random, own.lend());
+                    reference::answer_on(&job, own.lend(), &mut text)
+                } else {
+                    reference::answer(&job(&mut random), &mut text)
+                };
+                let text = std::str::from_utf8(&text[..length]).unwrap();
+                if let Some(line) = text.lines().find_map(|line| line.strip_prefix("basis=")) {
+                    seen[Basis::of_word(line).unwrap() as usize] += 1;
+                }
+            }
+            let last = if lending { 4 } else { 3 };
+            assert!(seen[..=last].iter().all(|&count| count >= COUNT / 50), "{} {:?}", lending, seen);
+            assert!(lending || seen[4] == 0, "{:?}", seen);
         }
     }
 }

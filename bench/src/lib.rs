@@ -9,6 +9,10 @@ pub mod reference;
 pub mod rows;
 pub mod tables;
 
+/// Room for any answer text: its keys, line ends, first digit and longest word take 61 bytes, and its five numbers at most
+/// 20 digits each.
+pub const ROOM: usize = 161;
+
 /// A curve sheet: depths, rates, and percents rate by rate.
 #[derive(Clone, Copy, Debug)]
 pub struct Sheet<'a> {
@@ -52,6 +56,64 @@ impl Value {
     }
 }
 
+/// How a percent was found; nothing was found for a load, or where it is refused.
+#[derive(Clone, Copy, Debug, Default, PartialEq, Eq)]
+pub enum Basis {
+    #[default]
+    None,
+    Printed,
+    Between,
+    Start,
+    Held,
+}
+
+impl Basis {
+    /// All of them, each at the place of its number.
+    pub const ALL: [Basis; 5] = [Basis::None, Basis::Printed, Basis::Between, Basis::Start, Basis::Held];
+
+    pub fn word(self) -> &'static str {
+        match self {
+            Basis::None => "none",
+            Basis::Printed => "printed",
+            Basis::Between => "between",
+            Basis::Start => "start",
+            Basis::Held => "held",
+        }
+    }
+
+    pub fn of_word(word: &str) -> Option<Basis> {
+        Basis::ALL.into_iter().find(|basis| basis.word() == word)
+    }
+}
+
+/// What is given back for a percent: the number, the percent and the number of its basis. Beside a refusal the last two are
+/// 0, and beside refusal 5 stand the list and the place that the test of the sheet found.
+#[repr(C)]
+#[derive(Clone, Copy, Debug, PartialEq, Eq)]
+pub struct PercentAnswer {
+    pub answer: u64,
+    pub percent: u64,
+    pub basis: u64,
+    pub list: u64,
+    pub place: u64,
+}
+
+impl PercentAnswer {
+    pub fn granted(percent: u64, basis: Basis) -> PercentAnswer {
+        PercentAnswer { answer: 0, percent, basis: basis as u64, list: 0, place: 0 }
+    }
+
+    pub fn refused(answer: u64) -> PercentAnswer {
+        PercentAnswer { answer, percent: 0, basis: Basis::None as u64, list: 0, place: 0 }
+    }
+
+    /// Refused with the verdict on a sheet that breaks a rule.
+    pub fn unfit(verdict: Verdict) -> PercentAnswer {
+        let Verdict { answer, list, place } = verdict;
+        PercentAnswer { list, place, ..PercentAnswer::refused(answer) }
+    }
+}
+
 /// The six calls of the C interface, as either side gives them.
 pub struct Calls {
     pub name: &'static str,
@@ -62,7 +124,7 @@ pub struct Calls {
     pub fault: fn(&[u8]) -> Part,
     pub sheet: fn(Sheet) -> Verdict,
     /// The percent of a sheet in a mode (mix or step), at a rate and a depth.
-    pub percent: fn(Sheet, bool, u64, u64) -> Value,
+    pub percent: fn(Sheet, bool, u64, u64) -> PercentAnswer,
     /// The rate of a reading in millimetres or inches per hour.
     pub reading: fn(bool, f32) -> Value,
 }

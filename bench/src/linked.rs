@@ -1,11 +1,11 @@
 //! The proved library, through its C interface.
 
-use crate::{Calls, Part, Sheet, Value, Verdict};
+use crate::{Calls, Part, PercentAnswer, Sheet, Value, Verdict};
 
 pub const CALLS: Calls = Calls { name: "the proved library", answer, answer_on, fault, sheet, percent, reading };
 
 mod c {
-    use crate::{Part, Value, Verdict};
+    use crate::{Part, PercentAnswer, Value, Verdict};
 
     extern "C" {
         pub fn sagecruet_answer(job: *const u8, job_len: usize, text: *mut u8, text_len: usize) -> usize;
@@ -40,7 +40,7 @@ mod c {
             mix: bool,
             rate: u64,
             depth: u64,
-        ) -> Value;
+        ) -> PercentAnswer;
         pub fn sagecruet_reading(millimetres: bool, reading: f32) -> Value;
     }
 }
@@ -87,7 +87,7 @@ pub fn sheet(sheet: Sheet) -> Verdict {
     }
 }
 
-pub fn percent(sheet: Sheet, mix: bool, rate: u64, depth: u64) -> Value {
+pub fn percent(sheet: Sheet, mix: bool, rate: u64, depth: u64) -> PercentAnswer {
     let Sheet { depths, rates, percents } = sheet;
     unsafe {
         c::sagecruet_percent(

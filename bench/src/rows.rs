@@ -3,7 +3,7 @@
 use std::fs;
 use std::path::Path;
 
-use crate::{Calls, Part, Sheet, Value, Verdict};
+use crate::{Basis, Calls, Part, PercentAnswer, Sheet, Value, Verdict};
 
 /// As much of JSON as the rows have.
 enum Json {
@@ -190,14 +190,18 @@ fn job_holds(calls: &Calls, row: &Json) -> bool {
     answers && (calls.fault)(&job) == part
 }
 
+/// The verdict on a sheet and its percents with their bases, beside refusal 5 with the list and the place of the verdict.
 fn sheet_holds(calls: &Calls, row: &Json) -> bool {
     let (depths, rates, percents) = (row.numbers("depths"), row.numbers("rates"), row.numbers("percents"));
     let sheet = Sheet { depths: &depths, rates: &rates, percents: &percents };
     let verdict = Verdict { answer: row.number("answer"), list: row.number("list"), place: row.number("place") };
     let asked = row.list("asked").iter().all(|asked| {
-        let value = Value { answer: asked.number("answer"), value: asked.number("percent") };
+        let basis = Basis::of_word(asked.text("basis")).expect("a row has a basis of its own");
+        let (answer, percent) = (asked.number("answer"), asked.number("percent"));
+        let (list, place) = if answer == 5 { (verdict.list, verdict.place) } else { (0, 0) };
+        let expected = PercentAnswer { answer, percent, basis: basis as u64, list, place };
         let mix = asked.text("mode") == "mix";
-        (calls.percent)(sheet, mix, asked.number("rate"), asked.number("depth")) == value
+        (calls.percent)(sheet, mix, asked.number("rate"), asked.number("depth")) == expected
     });
     asked && (calls.sheet)(sheet) == verdict
 }

@@ -1,12 +1,12 @@
 //! Rules, "Numbers to hold on to": the numbers that are told there, held by the Rust code.
 
-use bench::{reference, Part, Sheet, Value, Verdict};
+use bench::{reference, Basis, Part, PercentAnswer, Sheet, Value, Verdict, ROOM};
 
 const T: Sheet =
     Sheet { depths: &[20, 60, 100], rates: &[25, 75], percents: &[20000, 50000, 70000, 40000, 65000, 80000] };
 
 fn answer(job: &str, sheet: Option<Sheet>) -> String {
-    let mut text = [0; 168];
+    let mut text = [0; ROOM];
     let length = match sheet {
         None => reference::answer(job.as_bytes(), &mut text),
         Some(sheet) => reference::answer_on(job.as_bytes(), sheet, &mut text),
@@ -23,17 +23,95 @@ fn on_t(task: &str, amount: u64, areas: &str) -> String {
 
 #[test]
 fn percents_of_t() {
-    for (mix, rate, depth, percent) in [
-        (false, 50, 40, 35000),
-        (false, 50, 0, 0),
-        (false, 50, 10, 10000),
-        (false, 50, 200, 70000),
-        (true, 50, 40, 43750),
-        (true, 26, 33, 30117),
+    for (mix, rate, depth, percent, basis) in [
+        (false, 50, 40, 35000, Basis::Between),
+        (false, 50, 0, 0, Basis::Start),
+        (false, 50, 10, 10000, Basis::Start),
+        (false, 50, 200, 70000, Basis::Held),
+        (true, 50, 40, 43750, Basis::Between),
+        (true, 26, 33, 30117, Basis::Between),
     ] {
-        assert_eq!(reference::percent(T, mix, rate, depth), Value::granted(percent));
+        assert_eq!(reference::percent(T, mix, rate, depth), PercentAnswer::granted(percent, basis));
     }
-    assert_eq!(reference::percent(T, false, 24, 40), Value::refused(7));
+    assert_eq!(reference::percent(T, false, 24, 40), PercentAnswer::refused(7));
+}
+
+#[test]
+fn bases_on_t() {
+    let basis = |mix, rate, depth| Basis::ALL[reference::percent(T, mix, rate, depth).basis as usize];
+    // The first and the last depth are printed, and what lies beside them is not.
+    for (depth, found) in [
+        (19, Basis::Start),
+        (20, Basis::Printed),
+        (21, Basis::Between),
+        (59, Basis::Between),
+        (60, Basis::Printed),
+        (100, Basis::Printed),
+        (101, Basis::Held),
+    ] {
+        for (mix, rate) in [(false, 50), (false, 25), (true, 25), (true, 75), (true, 76), (true, 10_000)] {
+            assert_eq!(basis(mix, rate, depth), found, "mix {} rate {} depth {}", mix, rate, depth);
+        }
+    }
+    // Strictly between two rates a printed depth is mixed; below the first depth and beyond the last nothing changes.
+    for rate in [26, 50, 74] {
+        for (depth, found) in [
+            (0, Basis::Start),
+            (19, Basis::Start),
+            (20, Basis::Between),
+            (60, Basis::Between),
+            (100, Basis::Between),
+            (101, Basis::Held),
+            (200, Basis::Held),
+        ] {
+            assert_eq!(basis(true, rate, depth), found, "rate {} depth {}", rate, depth);
+        }
+    }
+    // A sheet without rates mixes nothing.
+    let flat = Sheet { depths: &[20, 60, 100], rates: &[0], percents: &[20000, 50000, 70000] };
+    assert_eq!(reference::percent(flat, true, 0, 60), PercentAnswer::granted(50000, Basis::Printed));
+    // It goes by the depth and not by the percent: a curve that is level from 20 to 60 has no printed depth between.
+    let level = Sheet { depths: &[20, 60], rates: &[0], percents: &[30000, 30000] };
+    assert_eq!(reference::percent(level, false, 0, 40), PercentAnswer::granted(30000, Basis::Between));
+    assert_eq!(reference::percent(level, false, 0, 61), PercentAnswer::granted(30000, Basis::Held));
+    // A depth of 200 that is the last is printed.
+    let whole = Sheet { depths: &[200], rates: &[0], percents: &[30000] };
+    assert_eq!(reference::percent(whole, false, 0, 200), PercentAnswer::granted(30000, Basis::Printed));
+    assert_eq!(reference::percent(whole, false, 0, 199), PercentAnswer::granted(29850, Basis::Start));
+}
+
+#[test]
+fn a_refused_percent_has_no_basis() {
+    for (rate, depth, answer) in [(10_001, 40, 6), (24, 40, 7), (25, 201, 9)] {
+        let zeros = PercentAnswer { answer, percent: 0, basis: 0, list: 0, place: 0 };
+        assert_eq!(reference::percent(T, true, rate, depth), zeros);
+    }
+    let broken = Sheet { percents: &[20000, 50000, 70000, 40000, 35000, 80000], ..T };
+    let unfit = PercentAnswer { answer: 5, percent: 0, basis: 0, list: 3, place: 4 };
+    assert_eq!(reference::percent(broken, true, 10_001, 201), unfit);
+    let unfit = PercentAnswer { answer: 5, percent: 0, basis: 0, list: 0, place: 0 };
+    assert_eq!(reference::percent(Sheet { rates: &[25], ..T }, true, 25, 20), unfit);
+}
+
+#[test]
+fn the_basis_is_that_of_the_depth_found() {
+    let acre = "area=com,imp,-,100\n";
+    for (task, amount, depth, word) in [
+        ("size", 0, 0, "start"),
+        ("size", 19_999, 20, "printed"),
+        ("size", 20_000, 20, "printed"),
+        ("size", 20_001, 21, "between"),
+        ("size", 70_000, 100, "printed"),
+        ("credit", 0, 0, "start"),
+        ("credit", 121 * 300 * 100 * 60, 60, "printed"),
+        ("credit", 121 * 300 * 100 * 60 - 1, 59, "between"),
+        ("credit", 121 * 300 * 100 * 100, 100, "printed"),
+        ("credit", 10_000_000_000_000, 200, "held"),
+    ] {
+        let text = on_t(task, amount, acre);
+        assert!(text.contains(&format!("\ndepth={}\n", depth)), "{} {}: {}", task, amount, text);
+        assert!(text.contains(&format!("\nbasis={}\nvolume=", word)), "{} {}: {}", task, amount, text);
+    }
 }
 
 #[test]
@@ -48,11 +126,11 @@ fn targets_on_t() {
 #[test]
 fn a_volume_and_one_unit_less() {
     let site = "area=com,imp,-,400\narea=com,per,C,200\narea=com,per,B,150\n";
-    assert!(on_t("size", 55001, site).contains("\ndepth=71\ncredit=55500\nvolume=1100343750\n"));
+    assert!(on_t("size", 55001, site).contains("\ndepth=71\ncredit=55500\nbasis=between\nvolume=1100343750\n"));
     assert!(on_t("credit", 1_100_343_750, site).contains("\ndepth=71\ncredit=55500\n"));
     assert!(on_t("credit", 1_100_343_749, site).contains("\ndepth=70\ncredit=55000\n"));
     let paved = "practice=basin\nnutrient=P\nmode=step\nrate=39\ntask=size\namount=70000\narea=com,imp,-,257\n";
-    assert!(answer(paved, None).contains("\ndepth=36\ncredit=70000\nvolume=335847600\n"));
+    assert!(answer(paved, None).contains("\ndepth=36\ncredit=70000\nbasis=between\nvolume=335847600\n"));
 }
 
 #[test]
@@ -78,7 +156,7 @@ fn readings() {
 fn the_load_job_and_its_faults() {
     let job = "practice=basin\nnutrient=N\nmode=step\nrate=0\ntask=load\namount=0\n\
                area=ind,imp,-,1013\narea=com,per,C,185\narea=for,per,C,89\n";
-    assert_eq!(answer(job, None), "answer=0\nload=1568350\ndepth=0\ncredit=0\nvolume=0\nremoved=0\n");
+    assert_eq!(answer(job, None), "answer=0\nload=1568350\ndepth=0\ncredit=0\nbasis=none\nvolume=0\nremoved=0\n");
     assert_eq!(reference::fault(job.as_bytes()), Part { from: job.len(), len: 0 });
     let unended = &job[..job.len() - 1];
     assert_eq!(answer(unended, None), "answer=1\nline=9\n");

@@ -6,14 +6,14 @@
     ...                     "size", sagecruet.from_percent(70), site)
     >>> answer = sagecruet.answer(job)
     >>> answer
-    {'answer': 0, 'load': 45746, 'depth': 36, 'credit': 70000, 'volume': 335847600, 'removed': 32022}
+    {'answer': 0, 'load': 45746, 'depth': 36, 'credit': 70000, 'basis': 'between', 'volume': 335847600, 'removed': 32022}
     >>> sagecruet.natural(answer)["volume"]
     Decimal('3358.47600')
 
 All numbers of a job and its answer are whole: areas in hundredths of an acre, depths in hundredths of an inch, rates in
 hundredths of an inch per hour, volumes in hundred-thousandths of a cubic foot, loads in ten-thousandths of a pound per
 year, percents in thousandths of a percent. from_acres, to_acres and their likes go from and to natural units, exactly.
-REFUSALS says what the numbers given back mean.
+REFUSALS says what the numbers given back mean. The basis, a word of BASES, says how the percent beside it was found.
 
 The functions call the proved library, a shared object for x86-64 Linux. Where it cannot be loaded, whatever asks for a
 job on the published tables (answer, answer_text, curve, plot) goes by the program creditrun instead, and the rest raises
@@ -55,7 +55,12 @@ REFUSALS = {
     15: "A load or a volume is past the largest number.",
 }
 
-ROOM = 147  # enough for any answer text
+# How a percent was found, by the numbers that the library gives; docs/words.tsv has them too. printed: the depth is one of the
+# sheet's, and no two rates are mixed; between: another depth from the first to the last, or any of these where rates are mixed;
+# start: a depth below the first, 0 among them; held: a depth beyond the last; none: there is no percent.
+BASES = ("none", "printed", "between", "start", "held")
+
+ROOM = 161  # enough for any answer text
 
 RATES = (17, 27, 52, 102, 241, 827)  # the rates of the tables of trench and basin; the other practices have none
 
@@ -265,7 +270,7 @@ def to_pounds(value):
 
 def natural(answer):
     """An answer in natural units: load and removed in pounds a year, depth in inches, credit in percent, volume in cubic
-    feet, as Decimals; the number given back, and the line of a refusal, as they are."""
+    feet, as Decimals; the number given back, the basis, and the line of a refusal, as they are."""
     if not isinstance(answer, dict):
         _refuse_kind("natural", "an answer, as answer() gives it", answer)
     return {key: _to(_PARTS[key], value) if key in _PARTS else value for key, value in answer.items()}
@@ -294,6 +299,10 @@ class _Verdict(ctypes.Structure):
     _fields_ = [("answer", ctypes.c_uint64), ("list", ctypes.c_uint64), ("place", ctypes.c_uint64)]
 
 
+class _Percent(ctypes.Structure):
+    _fields_ = [(name, ctypes.c_uint64) for name in ("answer", "percent", "basis", "list", "place")]
+
+
 class _Value(ctypes.Structure):
     _fields_ = [("answer", ctypes.c_uint64), ("value", ctypes.c_uint64)]
 
@@ -310,7 +319,7 @@ def _loaded(place):
         ("answer_on", text + sheet + text, ctypes.c_size_t),
         ("fault", text, _Part),
         ("sheet", sheet, _Verdict),
-        ("percent", sheet + [ctypes.c_bool, ctypes.c_uint64, ctypes.c_uint64], _Value),
+        ("percent", sheet + [ctypes.c_bool, ctypes.c_uint64, ctypes.c_uint64], _Percent),
         ("reading", [ctypes.c_bool, ctypes.c_float], _Value),
     ):
         function = getattr(library, "sagecruet_" + name)
@@ -389,7 +398,8 @@ def backend():
         return None
 
 
-_ANSWER = re.compile(rb"answer=0\nload=\d+\ndepth=\d+\ncredit=\d+\nvolume=\d+\nremoved=\d+\n|answer=\d+\nline=\d+\n")
+_ANSWER = re.compile((r"answer=0\nload=\d+\ndepth=\d+\ncredit=\d+\nbasis=(?:" + "|".join(BASES) + r")\nvolume=\d+\nremoved=\d+\n"
+                      r"|answer=\d+\nline=\d+\n").encode())
 
 
 def _by_program(command, job):
@@ -479,12 +489,14 @@ def answer_text(job, sheet=None, room=ROOM):
 
 
 def answer(job, sheet=None):
-    """The answer of a job as a dictionary: answer, load, depth, credit, volume and removed, or answer and line.
+    """The answer of a job as a dictionary: answer, load, depth, credit, basis, volume and removed, or answer and line. The
+    basis is a word of BASES, all else are whole numbers.
 
     >>> answer("practice=basin")
     {'answer': 1, 'line': 1}
     """
-    return {key: int(value) for key, value in (line.split("=") for line in answer_text(job, sheet).splitlines())}
+    pairs = (line.split("=") for line in answer_text(job, sheet).splitlines())
+    return {key: value if key == "basis" else int(value) for key, value in pairs}
 
 
 # ---- What needs the library
@@ -514,15 +526,17 @@ def sheet_verdict(sheet):
 
 
 def percent(sheet, rate, depth, mix=False):
-    """(answer, percent) of a sheet at a rate and a depth, in mode step or mix. Needs the library.
+    """(answer, percent, basis) of a sheet at a rate and a depth, in mode step or mix. The basis is a word of BASES; beside a
+    refusal the percent is 0 and the basis 'none'. Of a sheet that is refused 5, sheet_verdict tells the list and the place.
+    Needs the library.
 
     >>> percent(Sheet([20, 60, 100], [25, 75], [20000, 50000, 70000, 40000, 65000, 80000]), 50, 40, mix=True)
-    (0, 43750)
+    (0, 43750, 'between')
     """
     arguments = _lists(sheet) + [_flag("mix", mix), _unsigned("rate", rate, "inches_per_hour")]
     arguments.append(_unsigned("depth", depth, "inches"))
-    value = _library().sagecruet_percent(*arguments)
-    return value.answer, value.value
+    found = _library().sagecruet_percent(*arguments)
+    return found.answer, found.percent, BASES[found.basis]
 
 
 def reading(value, millimetres=False):

@@ -31,6 +31,17 @@ static uint64_t number_of(const char *text, const char *key)
     return found ? strtoull(found + strlen(key), NULL, 10) : 0;
 }
 
+/* The word behind the key `basis=` of an answer text, up to the end of its line. */
+static void show_basis(const char *text)
+{
+    const char *found = strstr(text, "basis=");
+    if (found)
+        printf("  basis: %.*s\n", (int)strcspn(found + 6, "\n"), found + 6);
+}
+
+/* The words of enum sagecruet_basis, by their numbers. */
+static const char *const bases[] = {"none", "printed", "between", "start", "held"};
+
 /* Works a job out, on the sheet above or on the published tables, and prints its answer with units. */
 static void answer(const char *job, bool on_sheet)
 {
@@ -46,6 +57,7 @@ static void answer(const char *job, bool on_sheet)
         show("load", number_of(text, "load="), 4, "pounds a year");
         show("depth", number_of(text, "depth="), 2, "inches");
         show("credit", number_of(text, "credit="), 3, "percent");
+        show_basis(text);
         show("volume", number_of(text, "volume="), 5, "cubic feet");
         show("removed", number_of(text, "removed="), 4, "pounds a year");
         break;
@@ -72,13 +84,27 @@ static void test(void)
         printf("  it breaks a rule: list %" PRIu64 ", place %" PRIu64 "\n", verdict.list, verdict.place);
 }
 
-/* Prints a value with its unit, or why there is none. */
-static void value(const char *name, struct sagecruet_value found, int places, const char *unit)
+/* Prints a percent of the sheet above with its basis, or why there is none. */
+static void percent(const char *name, bool mix, uint64_t rate, uint64_t depth)
+{
+    struct sagecruet_percent_answer found = sagecruet_percent(SHEET, mix, rate, depth);
+    if (found.answer == SAGECRUET_GRANTED) {
+        show(name, found.percent, 3, "percent");
+        printf("  basis: %s\n", bases[found.basis]);
+    } else if (found.answer == SAGECRUET_RATE_BELOW_SHEET) {
+        printf("  %s: the soil is slower than every rate of the sheet\n", name);
+    } else if (found.answer == SAGECRUET_UNFIT_SHEET) {
+        printf("  %s: the sheet breaks a rule, list %" PRIu64 ", place %" PRIu64 "\n", name, found.list, found.place);
+    } else {
+        printf("  %s: refused %" PRIu64 "\n", name, found.answer);
+    }
+}
+
+/* Prints the rate of a reading, or why there is none. */
+static void rate(const char *name, struct sagecruet_value found)
 {
     if (found.answer == SAGECRUET_GRANTED)
-        show(name, found.value, places, unit);
-    else if (found.answer == SAGECRUET_RATE_BELOW_SHEET)
-        printf("  %s: the soil is slower than every rate of the sheet\n", name);
+        show(name, found.value, 2, "inches per hour");
     else
         printf("  %s: refused %" PRIu64 "\n", name, found.answer);
 }
@@ -92,8 +118,11 @@ int main(void)
 
     puts("A sheet of our own");
     test();
-    value("0.40 inches at 0.50 in/hr, mixed", sagecruet_percent(SHEET, true, 50, 40), 3, "percent");
-    value("0.40 inches at 0.24 in/hr", sagecruet_percent(SHEET, false, 24, 40), 3, "percent");
+    percent("0.40 inches at 0.50 in/hr, mixed", true, 50, 40);
+    percent("0.60 inches at 0.50 in/hr", false, 50, 60);
+    percent("0.10 inches at 0.50 in/hr", false, 50, 10);
+    percent("2.00 inches at 0.50 in/hr", false, 50, 200);
+    percent("0.40 inches at 0.24 in/hr", false, 24, 40);
     puts("A practice for 55.001 percent of the nitrogen of 7.50 acres, by that sheet");
     answer("practice=basin\nnutrient=N\nmode=step\nrate=50\ntask=size\namount=55001\n"
            "area=com,imp,-,400\narea=com,per,C,200\narea=com,per,B,150\n", true);
@@ -102,9 +131,10 @@ int main(void)
     puts("The sheet with a percent that falls");
     percents[4] = 35000;
     test();
+    percent("0.40 inches at 0.50 in/hr", false, 50, 40);
 
     puts("A probe");
-    value("127 millimetres per hour", sagecruet_reading(true, 127.0f), 2, "inches per hour");
-    value("-1 inches per hour", sagecruet_reading(false, -1.0f), 2, "inches per hour");
+    rate("127 millimetres per hour", sagecruet_reading(true, 127.0f));
+    rate("-1 inches per hour", sagecruet_reading(false, -1.0f));
     return 0;
 }

@@ -10,7 +10,7 @@ use std::process::ExitCode;
 
 use bench::generate::{self, OwnSheet};
 use bench::random::Random;
-use bench::{linked, reference, rows, Sheet};
+use bench::{linked, reference, rows, Basis, Sheet};
 
 /// Bytes that stand on each side of a lent buffer, in the same allocation.
 const MARGIN: usize = 24;
@@ -23,6 +23,11 @@ struct Seen {
     jobs: [u64; 16],
     percents: [u64; 16],
     readings: [u64; 16],
+    /// How often each basis stood in the text of a granted job and beside a granted percent, and each list beside
+    /// refusal 5 of a percent.
+    job_bases: [u64; 5],
+    percent_bases: [u64; 5],
+    lists: [u64; 4],
     too_short: u64,
     longest: usize,
 }
@@ -48,6 +53,12 @@ fn number_of(text: &[u8]) -> usize {
     text.iter().skip(7).take_while(|b| b.is_ascii_digit()).fold(0, |n, b| n * 10 + (b - b'0') as usize)
 }
 
+/// The basis in an answer text, where it is that of a granted job.
+fn basis_of(text: &[u8]) -> Option<Basis> {
+    let word = text.split(|&byte| byte == b'\n').find_map(|line| line.strip_prefix(b"basis="))?;
+    Basis::of_word(std::str::from_utf8(word).ok()?)
+}
+
 fn answered(sheet: Option<Sheet>, job: &[u8], ours: bool, text: &mut [u8]) -> usize {
     match (sheet, ours) {
         (None, true) => linked::answer(job, text),
@@ -63,6 +74,9 @@ fn compare_job(seen: &mut Seen, random: &mut Random, job: Vec<u8>, lent: Option<
     let mut whole = [0; 256];
     let length = answered(sheet, &job, false, &mut whole);
     seen.jobs[number_of(&whole[..length])] += 1;
+    if let Some(basis) = basis_of(&whole[..length]) {
+        seen.job_bases[basis as usize] += 1;
+    }
     seen.longest = seen.longest.max(job.len());
     let room = match random.below(6) {
         0 => random.below(length as u64 + 1) as usize,
@@ -98,10 +112,15 @@ fn compare_job(seen: &mut Seen, random: &mut Random, job: Vec<u8>, lent: Option<
 fn compare_sheet(seen: &mut Seen, random: &mut Random, own: &OwnSheet) {
     let sheet = own.lend();
     let copy = own.clone();
-    let (mix, rate, depth) = (random.one_in(2), generate::rate_for(random, sheet), generate::depth(random));
+    let (mix, rate, depth) = (random.one_in(2), generate::rate_for(random, sheet), generate::depth_for(random, sheet));
     let ours = (linked::sheet(sheet), linked::percent(sheet, mix, rate, depth));
     let theirs = (reference::sheet(sheet), reference::percent(sheet, mix, rate, depth));
     seen.percents[theirs.1.answer as usize] += 1;
+    match theirs.1.answer {
+        0 => seen.percent_bases[theirs.1.basis as usize] += 1,
+        5 => seen.lists[theirs.1.list as usize] += 1,
+        _ => {}
+    }
     seen.note(ours == theirs && *own == copy, || {
         format!("{:?} mix {} rate {} depth {}: {:?}, and the Rust code {:?}", copy, mix, rate, depth, ours, theirs)
     });
@@ -149,9 +168,14 @@ fn compare_one(seen: &mut Seen, random: &mut Random) {
     }
 }
 
-fn told(numbers: &[u64; 16]) -> String {
+fn told(numbers: &[u64]) -> String {
     let pairs = numbers.iter().enumerate().filter(|(_, &count)| count > 0);
     pairs.map(|(number, count)| format!("{}: {}", number, count)).collect::<Vec<_>>().join(", ")
+}
+
+fn told_bases(numbers: &[u64; 5]) -> String {
+    let pairs = Basis::ALL.iter().zip(numbers).filter(|(_, &count)| count > 0);
+    pairs.map(|(basis, count)| format!("{}: {}", basis.word(), count)).collect::<Vec<_>>().join(", ")
 }
 
 fn main() -> ExitCode {
@@ -176,6 +200,12 @@ fn main() -> ExitCode {
     println!("numbers given back, by jobs: {}", told(&seen.jobs));
     println!("  by percents of a sheet: {}", told(&seen.percents));
     println!("  by readings: {}", told(&seen.readings));
+    println!("bases, of granted jobs: {}", told_bases(&seen.job_bases));
+    println!(
+        "  of granted percents: {}; lists beside refusal 5: {}",
+        told_bases(&seen.percent_bases),
+        told(&seen.lists)
+    );
     println!("  buffers too short for the text (13): {}; longest job text: {} bytes", seen.too_short, seen.longest);
     let mut whole = seen.differed == 0;
     match vectors {

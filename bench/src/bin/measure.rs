@@ -11,12 +11,9 @@ use std::time::Instant;
 use bench::generate::{LAND_USES, SOILS};
 #[cfg(feature = "linked")]
 use bench::linked;
-use bench::reference;
+use bench::{reference, ROOM};
 
 type Answer = fn(&[u8], &mut [u8]) -> usize;
-
-/// The longest answer text and more.
-const ROOM: usize = 168;
 
 /// The job text of a kind: the load job of jobs/sample.job, the same with a land use that does not exist in its
 /// last line, or a credit or a sizing on 32 sub-areas of every land use and soil.

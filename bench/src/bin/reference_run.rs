@@ -12,7 +12,7 @@ fn main() -> io::Result<()> {
             n => length += n,
         }
     }
-    let mut text = [0; 168];
+    let mut text = [0; bench::ROOM];
     let written = bench::reference::answer(&job[..length], &mut text);
     io::stdout().lock().write_all(&text[..written])
 }

@@ -2,7 +2,7 @@
 
 use super::site::GRID;
 use super::MOST_PERCENT;
-use crate::{Sheet, Verdict};
+use crate::{Basis, Sheet, Verdict};
 
 const MOST_RATE: u64 = 10_000;
 
@@ -95,6 +95,19 @@ impl<'a> Curve<'a> {
         let low = line(self.low) * self.low_weight;
         let high = if self.high_weight == 0 { 0 } else { line(self.high) * self.high_weight };
         (low + high) / ((end - before) * weight)
+    }
+
+    /// How the percent at a depth is found. Two curves are mixed where the second has a weight.
+    pub fn basis(&self, depth: u64) -> Basis {
+        if depth < self.depths[0] {
+            Basis::Start
+        } else if depth > self.depths[self.depths.len() - 1] {
+            Basis::Held
+        } else if self.high_weight == 0 && self.depths.contains(&depth) {
+            Basis::Printed
+        } else {
+            Basis::Between
+        }
     }
 
     /// The least grid depth whose percent is at least a target that the percent at the deepest reaches.

@@ -7,7 +7,7 @@ mod probe;
 mod site;
 
 use crate::tables::PUBLISHED;
-use crate::{Calls, Part, Sheet, Value, Verdict};
+use crate::{Calls, Part, PercentAnswer, Sheet, Value, Verdict};
 use answer::{Figures, Outcome};
 use curve::Curve;
 use job::{Job, Task};
@@ -41,15 +41,16 @@ pub fn sheet(sheet: Sheet) -> Verdict {
     curve::judge(sheet)
 }
 
-/// The percent of a lent sheet at a rate and a depth.
-pub fn percent(sheet: Sheet, mix: bool, rate: u64, depth: u64) -> Value {
-    if curve::judge(sheet).answer != 0 {
-        return Value::refused(5);
+/// The percent of a lent sheet at a rate and a depth, and its basis.
+pub fn percent(sheet: Sheet, mix: bool, rate: u64, depth: u64) -> PercentAnswer {
+    let verdict = curve::judge(sheet);
+    if verdict.answer != 0 {
+        return PercentAnswer::unfit(verdict);
     }
     match Curve::of(sheet, mix, rate) {
-        Err(answer) => Value::refused(answer),
-        Ok(_) if depth > GRID => Value::refused(9),
-        Ok(curve) => Value::granted(curve.percent(depth)),
+        Err(answer) => PercentAnswer::refused(answer),
+        Ok(_) if depth > GRID => PercentAnswer::refused(9),
+        Ok(curve) => PercentAnswer::granted(curve.percent(depth), curve.basis(depth)),
     }
 }
 
@@ -103,6 +104,6 @@ fn figures(job: &Job, lent: Option<Sheet>) -> Result<Figures, u64> {
         let depth = curve.depth(job.amount);
         (depth, ground.volume(depth))
     };
-    let credit = curve.percent(depth);
-    Ok(Figures { load, depth, credit, volume, removed: load * credit / MOST_PERCENT })
+    let (credit, basis) = (curve.percent(depth), curve.basis(depth));
+    Ok(Figures { load, depth, credit, basis, volume, removed: load * credit / MOST_PERCENT })
 }

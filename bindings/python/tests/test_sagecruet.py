@@ -140,10 +140,12 @@ class Units(unittest.TestCase):
             self.assertRaises(ValueError, sagecruet.from_acres, "ten")
 
     def test_an_answer_in_natural_units(self):
-        given = {"answer": 0, "load": 45746, "depth": 36, "credit": 70000, "volume": 335847600, "removed": 32022}
+        given = {"answer": 0, "load": 45746, "depth": 36, "credit": 70000, "basis": "between", "volume": 335847600,
+                 "removed": 32022}
         self.assertEqual(
             {key: str(value) for key, value in sagecruet.natural(given).items()},
-            {"answer": "0", "load": "4.5746", "depth": "0.36", "credit": "70.000", "volume": "3358.47600", "removed": "3.2022"},
+            {"answer": "0", "load": "4.5746", "depth": "0.36", "credit": "70.000", "basis": "between", "volume": "3358.47600",
+             "removed": "3.2022"},
         )
         self.assertEqual(sagecruet.natural({"answer": 1, "line": 8}), {"answer": 1, "line": 8})
         self.assertRaises(TypeError, sagecruet.natural, "answer=0")
@@ -217,13 +219,32 @@ class Answers(unittest.TestCase):
             with self.subTest(job=name):
                 text = (ROOT / "jobs" / name).read_bytes()
                 self.assertEqual(sagecruet.answer_text(text), words.replace(" ", "\n") + "\n")
-                self.assertEqual(sagecruet.answer(text.decode()), {k: int(v) for k, v in (w.split("=") for w in words.split())})
+                pairs = [word.split("=") for word in words.split()]
+                expected = {key: value if key == "basis" else int(value) for key, value in pairs}
+                self.assertEqual(list(sagecruet.answer(text.decode()).items()), list(expected.items()))
 
     @needs_answers
     def test_a_volume_of_the_rules(self):
         # V(36) of 2.57 paved acres is 335,847,600: the basin's curve of 0.27 in/hr, 54 at 0.2 in and 74 at 0.4, is at 70 there.
         given = sagecruet.answer(SIZE)
         self.assertEqual((given["depth"], given["credit"], given["volume"]), (36, 70000, 335847600))
+        self.assertEqual(given["basis"], "between")
+
+    @needs_answers
+    def test_the_basis_goes_by_the_depth(self):
+        # A paved acre: a hundredth of an inch on it is 121 * 300 * 100 units. The tables' depths are 0.1, 0.2, 0.4 in and more.
+        for mode, rate, depth, basis in (
+            ("step", 39, 0, "start"), ("step", 39, 9, "start"), ("step", 39, 10, "printed"), ("step", 39, 11, "between"),
+            ("step", 39, 200, "printed"), ("mix", 39, 9, "start"), ("mix", 39, 40, "between"), ("mix", 52, 40, "printed"),
+            ("mix", 39, 200, "between"), ("mix", 10000, 40, "printed"),
+        ):
+            with self.subTest(mode=mode, rate=rate, depth=depth):
+                job = sagecruet.job("basin", "P", mode, rate, "credit", 121 * 300 * 100 * depth, [("com", "imp", "-", 100)])
+                given = sagecruet.answer(job)
+                self.assertEqual((given["depth"], given["basis"]), (depth, basis))
+        load = sagecruet.job("basin", "P", "step", 39, "load", 0, PAVED)
+        self.assertEqual(sagecruet.answer(load)["basis"], "none")
+        self.assertEqual(sagecruet.answer(SIZE.replace("70000", "0"))["basis"], "start")
 
     @needs_answers
     def test_texts_that_do_not_read(self):
@@ -256,29 +277,56 @@ class Answers(unittest.TestCase):
         self.assertEqual(sagecruet.REFUSALS, {int(number): words for number, _, words, _ in rows})
         self.assertIn(f"Lend {sagecruet.ROOM} bytes, which hold any answer.", [row[3] for row in rows])
 
+    @needs_repository
+    def test_bases_are_those_of_the_table_and_of_the_header(self):
+        table = (ROOT / "docs" / "words.tsv").read_text().split("# How a percent was found", 1)[1].splitlines()[1:]
+        self.assertEqual(sagecruet.BASES, tuple(row.split("\t")[0] for row in table))
+        header = (ROOT / "include" / "sagecruet.h").read_text()
+        numbered = re.findall(r"SAGECRUET_BASIS_(\w+) = (\d)", header)
+        self.assertEqual([(word.upper(), str(n)) for n, word in enumerate(sagecruet.BASES)], numbered)
+        self.assertIn(f"#define SAGECRUET_ROOM {sagecruet.ROOM}\n", header)
+        fields = re.search(r"struct sagecruet_percent_answer \{\n(.*?)\};", header, re.S)[1]
+        self.assertEqual(re.findall(r"uint64_t (\w+);", fields), [name for name, _ in sagecruet._Percent._fields_])
+
+    def test_the_longest_answer_has_room(self):
+        longest = "answer=0\n" + "".join(f"{key}={2**64 - 1}\n" for key in ("load", "depth", "credit", "volume", "removed"))
+        self.assertEqual(sagecruet.ROOM, len(longest) + max(len(f"basis={word}\n") for word in sagecruet.BASES))
+
 
 class WithTheLibrary(unittest.TestCase):
     @needs_library
     def test_sheet_T(self):
         self.assertEqual(sagecruet.sheet_verdict(T), (0, 0, 0))
-        for depth, percent in ((40, 35000), (0, 0), (10, 10000), (200, 70000)):
-            self.assertEqual(sagecruet.percent(T, 50, depth), (0, percent))
-        self.assertEqual(sagecruet.percent(T, 50, 40, mix=True), (0, 43750))
-        self.assertEqual(sagecruet.percent(T, 26, 33, mix=True), (0, 30117))
-        self.assertEqual(sagecruet.percent(T, 24, 33), (7, 0))
-        self.assertEqual(sagecruet.percent(T, 50, 201), (9, 0))
+        for depth, percent, basis in ((40, 35000, "between"), (0, 0, "start"), (10, 10000, "start"), (19, 19000, "start"),
+                                      (20, 20000, "printed"), (60, 50000, "printed"), (100, 70000, "printed"),
+                                      (101, 70000, "held"), (200, 70000, "held")):
+            self.assertEqual(sagecruet.percent(T, 50, depth), (0, percent, basis))
+        self.assertEqual(sagecruet.percent(T, 50, 40, mix=True), (0, 43750, "between"))
+        self.assertEqual(sagecruet.percent(T, 26, 33, mix=True), (0, 30117, "between"))
+        # Mixed, at a printed depth, below the first and beyond the last; and at a rate of the sheet, where nothing mixes.
+        for rate, depth, percent, basis in ((50, 60, 57500, "between"), (50, 10, 15000, "start"), (50, 101, 75000, "held"),
+                                            (25, 60, 50000, "printed"), (75, 60, 65000, "printed"), (76, 60, 65000, "printed")):
+            self.assertEqual(sagecruet.percent(T, rate, depth, mix=True), (0, percent, basis))
+        self.assertEqual(sagecruet.percent(T, 24, 33), (7, 0, "none"))
+        self.assertEqual(sagecruet.percent(T, 10001, 33), (6, 0, "none"))
+        self.assertEqual(sagecruet.percent(T, 50, 201), (9, 0, "none"))
+        self.assertEqual(sagecruet.percent((T.depths, T.rates, T.percents[:5]), 50, 40), (5, 0, "none"))
         self.assertEqual(sagecruet.sheet_verdict((T.depths, T.rates, [20000, 50000, 70000, 40000, 35000, 80000])), (5, 3, 4))
         self.assertEqual(sagecruet.sheet_verdict(([], [], [])), (5, 0, 0))
         self.assertEqual(sagecruet.sheet_verdict((T.depths, T.rates, T.percents[:5])), (5, 0, 0))
         # 0.20, 0.60 and 1.00 in, at 10, 20 and 30 percent: half way between the first two is 15.
         drawn = (range(20, 101, 40), (rate for rate in [0]), range(10000, 30001, 10000))
-        self.assertEqual(sagecruet.percent(iter(drawn), 0, 40), (0, 15000))
+        self.assertEqual(sagecruet.percent(iter(drawn), 0, 40), (0, 15000, "between"))
 
     @needs_library
     def test_a_job_on_a_lent_sheet(self):
         areas = [("com", "imp", "-", 400), ("com", "per", "C", 200), ("open", "per", "B", 150)]
         given = sagecruet.answer(sagecruet.job("swale", "P", "step", 50, "size", 55001, areas), T)
         self.assertEqual((given["answer"], given["depth"], given["credit"], given["volume"]), (0, 71, 55500, 1100343750))
+        self.assertEqual(list(given), ["answer", "load", "depth", "credit", "basis", "volume", "removed"])
+        self.assertEqual(given["basis"], "between")
+        given = sagecruet.answer(sagecruet.job("swale", "P", "step", 50, "credit", 10**13, areas), T)
+        self.assertEqual((given["depth"], given["credit"], given["basis"]), (200, 70000, "held"))
         given = sagecruet.answer(sagecruet.job("swale", "P", "step", 50, "credit", 1100343749, areas), T)
         self.assertEqual((given["answer"], given["depth"], given["credit"]), (0, 70, 55000))
         self.assertIsNone(sagecruet.answer_text(SIZE, T, room=3))
@@ -442,7 +490,7 @@ STUB = """#!/bin/sh
 [ "$*" = "-q" ] || exit 2
 read -r first
 [ "$first" = practice=basin ] || exit 2
-printf 'answer=0\\nload=7\\ndepth=6\\ncredit=5\\nvolume=4\\nremoved=3\\n'
+printf 'answer=0\\nload=7\\ndepth=6\\ncredit=5\\nbasis=held\\nvolume=4\\nremoved=3\\n'
 """
 
 
@@ -496,7 +544,8 @@ class WhatIsThere(unittest.TestCase):
     def test_the_run_of_the_repository_answers(self):
         with self.repository() as (module, _):
             self.assertEqual(module.backend(), "program")
-            self.assertEqual(module.answer(SIZE), {"answer": 0, "load": 7, "depth": 6, "credit": 5, "volume": 4, "removed": 3})
+            self.assertEqual(module.answer(SIZE), {"answer": 0, "load": 7, "depth": 6, "credit": 5, "basis": "held", "volume": 4,
+                                                   "removed": 3})
             self.assertRaises(module.Unavailable, module.answer, SIZE, T)
             with self.machine("aarch64"):
                 words = "aarch64; here answer, .* work, .* by the program creditrun"
@@ -516,12 +565,16 @@ class WhatIsThere(unittest.TestCase):
             self.assertEqual(module.answer(SIZE), {"answer": 10, "line": 0})
 
     def test_what_is_no_answer_is_no_answer(self):
-        granted = "answer=0\\nload=7\\ndepth=6\\ncredit=5\\nvolume=4\\nremoved=3\\n"
+        granted = "answer=0\\nload=7\\ndepth=6\\ncredit=5\\nbasis=held\\nvolume=4\\nremoved=3\\n"
         for run, words in (
             ("exit 2", "status 2"),
             (f"printf '{granted}'; exit 3", "status 3"),
             ("echo answer=0", "status 0"),
             (f"printf '{granted}more\\n'", "status 0"),
+            (f"printf '{granted}'".replace("basis=held\\n", ""), "status 0"),
+            (f"printf '{granted}'".replace("held", "helt"), "status 0"),
+            (f"printf '{granted}'".replace("held", "4"), "status 0"),
+            (f"printf '{granted}'".replace("held", "held "), "status 0"),
             (f"printf '{granted}'; kill -9 $$", "status -9"),
         ):
             with self.subTest(run=run), self.repository(run=f"#!/bin/sh\n{run}\n") as (module, _):

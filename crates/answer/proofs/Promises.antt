@@ -10,11 +10,13 @@ use lib.Seq.{take-append-seam, drop-append-seam}
 use mathlib.Core.Logic.{⊎-elim}
 use borrow.Author.Tests.{le-ltb}
 use Rattle.laws.proofs.Order.{lt-or-le}
+use Rattle.text.specs.Pieces.{joined, pieces}
 use Rattle.text.specs.Numbers.{decimalFrom, decimalOf}
 use Rattle.refusal.specs.declared.Refusal.the-variants.{UnfitSheet, BufferTooShort}
 use Rattle.refusal.specs.Refusal.{numberOf, granted}
 use Rattle.answer.specs.declared.Outcome.the-variants.{Granted, Refused, BadSheet}
-use Rattle.answer.specs.Lines.{lineOf, answerText}
+use Rattle.answer.specs.Lines.{answerText}
+use Rattle.writing.specs.Lines.{lineWith}
 use Rattle.writing.specs.Writing.{pasted, writtenOf, bufferOf, writtenGiven}
 use Rattle.answer.specs.Promises.{NeverLonger, LongestReached, RefusedShorter, OnlyTooShort, LongestSuffices, RefusedKeeps, GrantedHolds}
 use Rattle.answer.proofs.Texts.{granted-longest, refused-longest, sheet-text}
@@ -31,7 +33,7 @@ never-longer (BadSheet i j) w =
     rw (← sheet-text i j) (omega arith)
 
 pub longest-reached : LongestReached
-unfolding answerText lineOf flatten decimalOf decimalFrom
+unfolding answerText lineWith flatten decimalOf decimalFrom pieces joined
 longest-reached = refl
 
 -- the number and the value by the two lengths

@@ -2,28 +2,31 @@
 -- Assumes nothing.
 use Prim.Native.Nat.{ℕ, _+_, _*_}
 use mathlib.Core.Bool.{cond}
-use mathlib.Core.List.{List, [], _∷_, _++_, flatten}
+use mathlib.Core.List.{List, [], _∷_, flatten}
 use lib.Dec.{eqb}
-use lib.ListN.{length}
+use lib.ListN.{length, getD}
 use Rattle.laws.specs.Text.{bytes}
 use Rattle.refusal.specs.Refusal.{granted}
-use Rattle.text.specs.Pieces.{lineFeed}
-use Rattle.text.specs.Numbers.{decimalOf}
+use Rattle.text.specs.Pieces.{space, pieces}
+use Rattle.curve.specs.declared.Basis.{Basis}
+use Rattle.curve.specs.Basis.{basisNumber, basisWords}
 use Rattle.credit.specs.Answers.{Given}
+use Rattle.writing.specs.Lines.{lineWith, lineOf}
 use Rattle.answer.specs.declared.Outcome.{Outcome}
 use Rattle.answer.specs.Outcomes.{given, faultLine}
 
--- a line: its key, the digits of its number, LF
-unfoldable pub lineOf : List ℕ → ℕ → List ℕ
-lineOf key n = key ++ decimalOf n ++ (lineFeed ∷ [])
+-- the word of a basis
+abbrev pub basisWord : Basis → List ℕ
+basisWord b = getD (pieces space basisWords) (basisNumber b) []
 
--- a granted outcome prints its five figures
+-- a granted outcome prints its figures, and behind the percent its basis
 abbrev pub grantedLines : Given → List (List ℕ)
 grantedLines g =
     lineOf (bytes "answer=") (g .answer)
     ∷ lineOf (bytes "load=") (g .load)
     ∷ lineOf (bytes "depth=") (g .depth)
     ∷ lineOf (bytes "credit=") (g .percent)
+    ∷ lineWith (bytes "basis=") (basisWord (g .basis))
     ∷ lineOf (bytes "volume=") (g .volume)
     ∷ lineOf (bytes "removed=") (g .removed)
     ∷ []
@@ -40,9 +43,10 @@ answerText o = flatten (cond (eqb (given o .answer) granted) (grantedLines (give
 abbrev pub widest : ℕ
 widest = 20
 
--- the length of the longest text of a granted outcome, whose five figures have the most digits: no text is longer
+-- the length of the longest text of a granted outcome, whose five numbers have the most digits beside one of the longest words: no
+-- text is longer
 abbrev pub longest : ℕ
-longest = length (bytes "answer=0\nload=\ndepth=\ncredit=\nvolume=\nremoved=\n") + 5 * widest
+longest = length (bytes "answer=0\nload=\ndepth=\ncredit=\nbasis=between\nvolume=\nremoved=\n") + 5 * widest
 
 -- the length of the longest text of a refused outcome
 abbrev pub longestRefused : ℕ

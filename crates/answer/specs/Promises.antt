@@ -9,6 +9,7 @@ use lib.ListN.{length, take, drop}
 use Rattle.refusal.specs.declared.Refusal.{Refusal}
 use Rattle.refusal.specs.declared.Refusal.the-variants.{BufferTooShort}
 use Rattle.refusal.specs.Refusal.{numberOf, granted}
+use Rattle.curve.specs.declared.Basis.the-variants.{Between}
 use Rattle.credit.specs.Credit.{figures}
 use Rattle.answer.specs.declared.Outcome.{Outcome}
 use Rattle.answer.specs.declared.Outcome.the-variants.{Granted, Refused}
@@ -32,9 +33,9 @@ NeverLonger = (o : Outcome) → Wide o → length (answerText o) ≤ longest
 abbrev pub RefusedShorter : Type 0
 RefusedShorter = (why : Refusal) (k : ℕ) → k < 2 ^ 64 → length (answerText (Refused why k)) ≤ longestRefused
 
--- The longest length is reached, by the largest numbers of 64 bits.
+-- The longest length is reached, by the largest numbers of 64 bits and a percent that was found between two depths.
 abbrev pub LongestReached : Type 0
-LongestReached = let most = 2 ^ 64 - 1 in length (answerText (Granted (figures most most most most most))) ≡ longest
+LongestReached = let most = 2 ^ 64 - 1 in length (answerText (Granted (figures most most most Between most most))) ≡ longest
 
 -- Writing gives 13 exactly when the buffer is shorter than the text, and else 0 and the text's length: it has no other refusal.
 abbrev pub OnlyTooShort : Type 0

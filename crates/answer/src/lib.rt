@@ -4,8 +4,11 @@ ghost use Prim.Native.Nat.{_≤_};
 ghost use lib.Dec.{ltb};
 ghost use lib.ListN.{length};
 ghost use Rattle.writing.specs.Writing.{writtenOf, putLength, bufferOf};
-ghost use Rattle.answer.specs.Lines.{lineOf, answerText, longest};
+ghost use Rattle.laws.specs.Text.{bytes};
+ghost use Rattle.writing.specs.Lines.{lineWith, lineOf};
+ghost use Rattle.answer.specs.Lines.{basisWord, answerText, longest};
 use credit::Figures;
+use curve::Basis;
 use refusal::Refusal;
 use writing::Written;
 
@@ -19,7 +22,12 @@ pub enum Outcome {
 }
 
 // The length of the longest text: a buffer of this size is never too short.
-pub const LONGEST: usize = 147;
+pub const LONGEST: usize = 161;
+
+// The words of a basis. They stand in the order of its cases, with a row for each that is as wide as the longest.
+const BASES: [u8; 35] = *b"none   printedbetweenstart  held   ";
+
+const BASIS_WIDTH: usize = 7;
 
 // The same as an answer: room for the text of any outcome.
 pub fn room() -> usize
@@ -62,16 +70,25 @@ fn granted_too_short(f: Figures, len: usize) -> bool
     len < granted_size(f)
 }
 
-// The length of a granted text: its keys and line ends, the 0 of its answer, and the digits of its figures.
+// The length of a granted text: its keys and line ends, the 0 of its answer, the word of its basis, and the digits of its figures.
 fn granted_size(f: Figures) -> usize
     ensures { λ r. ⌜ r ≡ length (answerText (Outcome.Granted f)) ⌝ }
 {
-    47
+    let how = f.basis;
+    54
+        + basis_size(how)
         + writing::width(f.load.0)
         + writing::width(f.depth.0)
         + writing::width(f.percent.0)
         + writing::width(f.volume.0)
         + writing::width(f.removed.0)
+}
+
+// That of a basis's word.
+fn basis_size(basis: Basis) -> usize
+    ensures { λ r. ⌜ (r ≡ length (basisWord basis)) × (r ≤ 7) ⌝ }
+{
+    writing::word_size(&BASES, BASIS_WIDTH, curve::basis_number(basis) as usize)
 }
 
 // That of a refused text: its keys and line ends, and the digits of its number and line.
@@ -102,10 +119,12 @@ fn put_granted(f: Figures, buf: &mut [u8]) -> usize
     ensures { λ r. ⌜ r ≡ putLength (now (buf .entry)) (answerText (Outcome.Granted f)) ⌝ }
     ensures { λ _. ⌜ now (buf .exit) ≡ bufferOf (now (buf .entry)) (answerText (Outcome.Granted f)) ⌝ }
 {
+    let how = f.basis;
     let load = put_line(b"answer=", 0, buf);
     let depth = load + put_line(b"load=", f.load.0, &mut buf[load..]);
     let credit = depth + put_line(b"depth=", f.depth.0, &mut buf[depth..]);
-    let volume = credit + put_line(b"credit=", f.percent.0, &mut buf[credit..]);
+    let basis = credit + put_line(b"credit=", f.percent.0, &mut buf[credit..]);
+    let volume = basis + put_basis(how, &mut buf[basis..]);
     let removed = volume + put_line(b"volume=", f.volume.0, &mut buf[volume..]);
     removed + put_line(b"removed=", f.removed.0, &mut buf[removed..])
 }
@@ -129,6 +148,19 @@ fn put_line(key: &[u8], n: u64, buf: &mut [u8]) -> usize
     let value = key.len();
     writing::put(key, &mut buf[..value]);
     let last = value + writing::put_number(n, &mut buf[value..]);
+    buf[last] = b'\n';
+    last + 1
+}
+
+// Puts the line of a basis, which has a word for its value.
+fn put_basis(basis: Basis, buf: &mut [u8]) -> usize
+    requires { ⌜ length (lineWith (bytes "basis=") (basisWord basis)) ≤ length (now buf) ⌝ }
+    ensures { λ r. ⌜ r ≡ putLength (now (buf .entry)) (lineWith (bytes "basis=") (basisWord basis)) ⌝ }
+    ensures { λ _. ⌜ now (buf .exit) ≡ bufferOf (now (buf .entry)) (lineWith (bytes "basis=") (basisWord basis)) ⌝ }
+{
+    let k = curve::basis_number(basis) as usize;
+    writing::put(b"basis=", &mut buf[..6]);
+    let last = 6 + writing::put_word(&BASES, BASIS_WIDTH, k, &mut buf[6..]);
     buf[last] = b'\n';
     last + 1
 }

@@ -29,6 +29,7 @@ use Rattle.credit.specs.declared.CreditAnswer.{CreditAnswer}
 use Rattle.credit.specs.declared.CreditAnswer.the-variants as credit
 use Rattle.credit.specs.declared.Wanted.{Wanted}
 use Rattle.curve.specs.declared.Mode.{Mode}
+use Rattle.curve.specs.declared.Basis.the-variants.{None}
 use Rattle.credit.specs.Credit.{figures}
 use Rattle.credit.specs.Answers.{Sheet, Given, given as creditGiven, answerOf, credit as creditOf, size as sizeOf}
 use Rattle.credit.proofs.Refusing.{elsewhere, answered-elsewhere}
@@ -77,13 +78,13 @@ zero-or-not ℕ.zero = inl refl
 zero-or-not (ℕ.suc n) = inr (λ z. omega arith)
 
 module _ (j : Job) (s : Site) (f : areaGiven (judged s) .0 ≡ granted) where
-  load-amounts : (j .amount ≡ 0 → ofLoadJob j s ≡ Granted (figures (loadOf (exportRates (j .nutrient)) (partsOf s)) 0 0 0 0))
+  load-amounts : (j .amount ≡ 0 → ofLoadJob j s ≡ Granted (figures (loadOf (exportRates (j .nutrient)) (partsOf s)) 0 0 None 0 0))
       × ((j .amount ≡ 0 → ⊥) → ofLoadJob j s ≡ Refused refused.AmountOutOfRange 0)
   unfolding ofLoadJob
   load-amounts = (λ e. simp (eq-eqb (j .amount) 0 e, load-sum (j .nutrient) s f), λ e. simp (ne-eqb (j .amount) 0 e))
 
   -- What holds of both holds of a load job's outcome.
-  either-amount : (P : Outcome → Type 0) → P (Granted (figures (loadOf (exportRates (j .nutrient)) (partsOf s)) 0 0 0 0))
+  either-amount : (P : Outcome → Type 0) → P (Granted (figures (loadOf (exportRates (j .nutrient)) (partsOf s)) 0 0 None 0 0))
       → P (Refused refused.AmountOutOfRange 0) → P (ofLoadJob j s)
   either-amount P g r =
       ⊎-elim (λ (z : j .amount ≡ 0). subst P (sym (load-amounts .0 z)) g) (λ (z : j .amount ≡ 0 → ⊥). subst P (sym (load-amounts .1 z)) r) (zero-or-not (j .amount))
@@ -93,7 +94,7 @@ unfolding ofLoadJob
 load-job sheet text j s h e =
     let f = reads-fine text j s h in
     let w = ap given (worked-out sheet text h) in
-    let zero : j .amount ≡ 0 → Answered sheet text ≡ creditGiven (credit.Granted (figures (loadOf (exportRates (j .nutrient)) (partsOf s)) 0 0 0 0)) =
+    let zero : j .amount ≡ 0 → Answered sheet text ≡ creditGiven (credit.Granted (figures (loadOf (exportRates (j .nutrient)) (partsOf s)) 0 0 None 0 0)) =
     λ z. w ∙ rw e (ap given (load-amounts j s f .0 z)) in
     let other : (j .amount ≡ 0 → ⊥) → Answered sheet text ≡ creditGiven (credit.Refused refused.AmountOutOfRange) =
     λ z. w ∙ rw e (ap given (load-amounts j s f .1 z)) in (

@@ -26,9 +26,9 @@ answered : (o : Outcome)
     ⊎ ((given o .answer ≡ granted → ⊥) × Zeros (given o))
 answered (Granted f) = inl (refl, refl, refl, refl)
 answered (Refused why line) =
-    inr (refusal-not-granted why, record { load = refl; depth = refl; percent = refl; volume = refl; removed = refl })
+    inr (refusal-not-granted why, record { load = refl; depth = refl; percent = refl; basis = refl; volume = refl; removed = refl })
 answered (BadSheet list place) =
-    inr (refusal-not-granted UnfitSheet, record { load = refl; depth = refl; percent = refl; volume = refl; removed = refl })
+    inr (refusal-not-granted UnfitSheet, record { load = refl; depth = refl; percent = refl; basis = refl; volume = refl; removed = refl })
 
 pub every-text-answered : EveryTextAnswered
 every-text-answered sheet text = answered (outcomeOf sheet text)

@@ -12,6 +12,7 @@ use Rattle.loads.specs.declared.LoadAnswer.the-variants as load
 use Rattle.loads.specs.Loads.{loadAnswer}
 use Rattle.credit.specs.declared.CreditAnswer.{CreditAnswer}
 use Rattle.credit.specs.declared.CreditAnswer.the-variants as credit
+use Rattle.curve.specs.declared.Basis.the-variants.{None}
 use Rattle.credit.specs.Credit.{figures}
 use Rattle.credit.specs.Answers.{Sheet, lent, published, answerOf, credit as creditOf, size as sizeOf}
 use Rattle.job.specs.declared.Job.{Job}
@@ -27,9 +28,9 @@ use Rattle.answer.specs.declared.Outcome.the-variants.{Granted, Refused, BadShe
 abbrev pub outsideLines : Refusal → Outcome
 outsideLines why = Refused why 0
 
--- a granted load job gives the load and leaves the other four figures 0
+-- a granted load job gives the load and leaves the other four numbers 0, with no basis
 abbrev pub ofLoad : LoadAnswer → Outcome
-ofLoad (load.Granted l) = Granted (figures (l .0) 0 0 0 0)
+ofLoad (load.Granted l) = Granted (figures (l .0) 0 0 None 0 0)
 ofLoad (load.Refused why) = outsideLines why
 
 abbrev pub ofCredit : CreditAnswer → Outcome

@@ -15,6 +15,7 @@ use Rattle.site.specs.Parts.{partsOf}
 use Rattle.loads.specs.Rates.{exportRates}
 use Rattle.loads.specs.Loads.{loadOf}
 use Rattle.credit.specs.declared.CreditAnswer.the-variants as credit
+use Rattle.curve.specs.declared.Basis.the-variants.{None}
 use Rattle.credit.specs.Credit.{figures}
 use Rattle.credit.specs.Answers.{Sheet, Given, given as creditGiven}
 use Rattle.credit.specs.Promises.{Credited, Sized}
@@ -39,11 +40,12 @@ FaultLine sheet text = faultLine (outcomeOf sheet text)
 abbrev pub Reads : List ℕ → Job → Site → Type 0
 Reads text j s = readingOf text ≡ record { answer = job.Granted j; site = s }
 
--- all result values but the place of the fault are zero
+-- all result values but the place of the fault are zero, and there is no basis
 pub record Zeros (g : Given) : Type 0 where
   pub load : g .load ≡ 0
   pub depth : g .depth ≡ 0
   pub percent : g .percent ≡ 0
+  pub basis : g .basis ≡ None
   pub volume : g .volume ≡ 0
   pub removed : g .removed ≡ 0
 
@@ -86,7 +88,7 @@ RefusalFits =
     × ((Answered sheet text .answer ≡ numberOf UnfitSheet → ⊥) → (Answered sheet text .list ≡ 0) × (Answered sheet text .place ≡ 0))
 
 -- Demand 2, of a load job: it is granted exactly where its amount is 0, since 15 does not arise, and gives the load of its site and zeros
--- for the other four; with another amount it is refused 9.
+-- for the other four, with no basis; with another amount it is refused 9.
 abbrev pub LoadJob : Type 0
 LoadJob =
     (sheet : ℕ → Sheet) (text : List ℕ) (j : Job) (s : Site)
@@ -94,7 +96,7 @@ LoadJob =
     → j .task ≡ task.Load
     → ((Answered sheet text .answer ≡ granted) ↔ (j .amount ≡ 0))
     × (j .amount ≡ 0
-    → Answered sheet text ≡ creditGiven (credit.Granted (figures (loadOf (exportRates (j .nutrient)) (partsOf s)) 0 0 0 0)))
+    → Answered sheet text ≡ creditGiven (credit.Granted (figures (loadOf (exportRates (j .nutrient)) (partsOf s)) 0 0 None 0 0)))
     × ((j .amount ≡ 0 → ⊥) → Answered sheet text ≡ creditGiven (credit.Refused AmountOutOfRange))
 
 -- of a credit job: it gives what crediting its amount gives, on the sheet of its practice,
@@ -155,14 +157,21 @@ HigherTargetInTexts =
     → Answered sheet higher .answer ≡ granted
     → Answered sheet lower .volume ≤ Answered sheet higher .volume
 
--- The sample job, jobs/sample.job, from its bytes to the bytes of its answer.
+-- The sample job, jobs/sample.job, and its answer's text
+abbrev pub sampleJob : List ℕ
+sampleJob =
+    bytes
+    "practice=basin\nnutrient=N\nmode=step\nrate=0\ntask=load\namount=0\narea=ind,imp,-,1013\narea=com,per,C,185\narea=for,per,C,89\n"
+
+abbrev pub sampleText : List ℕ
+sampleText = bytes "answer=0\nload=1568350\ndepth=0\ncredit=0\nbasis=none\nvolume=0\nremoved=0\n"
+
+-- From the bytes of the job to those of its answer, of which there are 69.
 abbrev pub SampleAnswered : Type 0
-SampleAnswered =
-    answerText
-    (outcomeOf byTables
-    (bytes
-    "practice=basin\nnutrient=N\nmode=step\nrate=0\ntask=load\namount=0\narea=ind,imp,-,1013\narea=com,per,C,185\narea=for,per,C,89\n"))
-    ≡ bytes "answer=0\nload=1568350\ndepth=0\ncredit=0\nvolume=0\nremoved=0\n"
+SampleAnswered = answerText (outcomeOf byTables sampleJob) ≡ sampleText
+
+abbrev pub SampleLong : Type 0
+SampleLong = length sampleText ≡ 69
 
 -- A lent buffer holds what it held before where the writing is refused; where it is granted, all behind the text is as it was.
 abbrev pub BufferKept : Type 0

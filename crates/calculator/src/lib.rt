@@ -9,6 +9,7 @@ use answer::Outcome;
 use credit::CreditAnswer;
 use credit::Figures;
 use credit::Wanted;
+use curve::Basis;
 use job::Job;
 use job::JobAnswer;
 use job::Task;
@@ -21,7 +22,7 @@ use units::Percent;
 use units::Volume;
 use writing::Written;
 
-// A load's outcome: the other figures are 0.
+// A load's outcome: the other numbers are 0, and there is no basis.
 fn of_load(found: LoadAnswer) -> Outcome
     ensures { λ r. ⌜ r ≡ ofLoad found ⌝ }
 {
@@ -30,6 +31,7 @@ fn of_load(found: LoadAnswer) -> Outcome
             load,
             depth: Depth(0),
             percent: Percent(0),
+            basis: Basis::None,
             volume: Volume(0),
             removed: Load(0),
         }),

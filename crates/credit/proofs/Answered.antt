@@ -23,6 +23,8 @@ use Rattle.volume.specs.Inner.{Six}
 use Rattle.volume.proofs.Reaching.{within-on-grid}
 use Rattle.volume.specs.Answers.{depthOn}
 use Rattle.curve.specs.declared.Mode.{Mode}
+use Rattle.curve.specs.declared.Basis.{Basis}
+use Rattle.curve.specs.declared.Basis.the-variants.{None}
 use Rattle.curve.specs.declared.Curves.{Curves}
 use Rattle.curve.specs.declared.Admission.{Admission}
 use Rattle.curve.specs.declared.Admission.the-variants as admission
@@ -31,6 +33,7 @@ use Rattle.curve.specs.declared.PercentAnswer.the-variants as percent
 use Rattle.curve.specs.declared.Reached.{Reached}
 use Rattle.curve.specs.declared.Reached.the-variants as reach
 use Rattle.curve.specs.Curve.{percentAt, depthReaching}
+use Rattle.curve.specs.Basis.{basisAt}
 use Rattle.curve.specs.Answers as curve
 use Rattle.curve.proofs.Answering.{admitted-ready}
 use Rattle.curve.proofs.Rising.{percent-most}
@@ -73,16 +76,17 @@ depth-told : (xs : List Area) (v : Volume) → Six xs → leb (v .0) largest ≡
 unfolding depthOn
 depth-told xs v s b c = simp (le-leb (totalOf xs) mostArea (s .small), b, c)
 
-credit-same : (xs : List Area) (l : ℕ) (v : Volume) (p : ℕ) (f : ℕ → ℕ) → Six xs → p ≡ f (depthIn (depthOn xs v) .0)
-    → creditBy l (areaAt xs 0) (volumeFrom xs) (λ d. p) (v .0) ≡ creditBy l (areaAt xs 0) (volumeFrom xs) f (v .0)
+credit-same : (xs : List Area) (l : ℕ) (v : Volume) (p : ℕ) (b : Basis) (f : ℕ → ℕ) (g : ℕ → Basis) → Six xs
+    → p ≡ f (depthIn (depthOn xs v) .0) → b ≡ g (depthIn (depthOn xs v) .0)
+    → creditBy l (areaAt xs 0) (volumeFrom xs) (λ d. p) (λ d. b) (v .0) ≡ creditBy l (areaAt xs 0) (volumeFrom xs) f g (v .0)
 unfolding creditBy
-credit-same xs l v p f s e =
+credit-same xs l v p b f g s e h =
     turn-same (ltb 0 (areaAt xs 0)) (leb (v .0) largest) (leb l largest) (leb (volumeFrom xs highestDepth) largest)
-    (λ b c. ap (λ (n : ℕ). Granted (figuresOf l (depthWithin (volumeFrom xs) (v .0)) n (v .0))) (e ∙ ap f (depth-told xs v s b c)))
+    (λ i c. rw (e, h, depth-told xs v s i c))
 
 -- The percent at a grid depth, by what 5, 6 and 7 leave.
 abbrev percentBy : List ℕ → List ℕ → ℕ → Admission → PercentAnswer
-percentBy ds ps d a = curve.afterAdmission percent.BadSheet percent.Refused (λ c. percent.Granted (record { 0 = percentAt ds ps c d })) a
+percentBy ds ps d a = curve.afterAdmission percent.BadSheet percent.Refused (λ c. percent.Granted (record { 0 = percentAt ds ps c d }) (basisAt ds c d)) a
 
 percent-by : (ds rs ps : List ℕ) (mode : Mode) (r d : ℕ) → d ≤ highestDepth
     → curve.percentAnswer ds rs ps mode r d ≡ percentBy ds ps d (curve.admissionOf ds rs ps mode r)
@@ -117,32 +121,32 @@ module _ (xs : List Area) (l : ℕ) (v : Volume) (ds rs ps : List ℕ) (mode : M
   unfolding onSheet
   credit-stopped why h = refused-told _ ds ps _ (curve.admissionOf ds rs ps mode r) why (told ∙ h)
 
-  granted-by : (a : Admission) (p : Percent) → percentBy ds ps (depthIn (depthOn xs v) .0) a ≡ percent.Granted p
-      → creditBy l (areaAt xs 0) (volumeFrom xs) (λ d. p .0) (v .0)
-      ≡ onCurves (λ c. worked (Credit v) l (areaAt xs 0) (volumeFrom xs) (percentAt ds ps c)) a
-  granted-by (admission.Admitted c) p h =
-      credit-same xs l v (p .0) (percentAt ds ps c) (w .areas) (sym (ap (λ (x : PercentAnswer). curve.given x .1) h))
-  granted-by (admission.BadSheet list place) p h = cc
-  granted-by (admission.Refused why) p h = cc
+  granted-by : (a : Admission) (p : Percent) (b : Basis) → percentBy ds ps (depthIn (depthOn xs v) .0) a ≡ percent.Granted p b
+      → creditBy l (areaAt xs 0) (volumeFrom xs) (λ d. p .0) (λ d. b) (v .0)
+      ≡ onCurves (λ c. worked (Credit v) l (areaAt xs 0) (volumeFrom xs) (percentAt ds ps c) (basisAt ds c)) a
+  granted-by (admission.Admitted c) p b h =
+      credit-same xs l v (p .0) b (percentAt ds ps c) (basisAt ds c) (w .areas) (sym (ap (λ (x : PercentAnswer). curve.given x .1) h)) cc
+  granted-by (admission.BadSheet list place) p b h = cc
+  granted-by (admission.Refused why) p b h = cc
 
-  pub credit-worked : (p : Percent) (answer : CreditAnswer) → found ≡ percent.Granted p
-      → answer ≡ creditBy l (areaAt xs 0) (volumeFrom xs) (λ d. p .0) (v .0)
+  pub credit-worked : (p : Percent) (b : Basis) (answer : CreditAnswer) → found ≡ percent.Granted p b
+      → answer ≡ creditBy l (areaAt xs 0) (volumeFrom xs) (λ d. p .0) (λ d. b) (v .0)
       → answer ≡ onSheet (Credit v) l (areaAt xs 0) (volumeFrom xs) ds rs ps mode r
   unfolding onSheet
-  credit-worked p answer h k = k ∙ granted-by (curve.admissionOf ds rs ps mode r) p (told ∙ h)
+  credit-worked p b answer h k = k ∙ granted-by (curve.admissionOf ds rs ps mode r) p b (told ∙ h)
 
-  most-by : (a : Admission) (p : Percent) → a ≡ curve.admissionOf ds rs ps mode r → percentBy ds ps (depthIn (depthOn xs v) .0) a ≡ percent.Granted p → p .0 ≤ mostPercent
-  most-by (admission.Admitted c) p k h =
+  most-by : (a : Admission) (p : Percent) (b : Basis) → a ≡ curve.admissionOf ds rs ps mode r → percentBy ds ps (depthIn (depthOn xs v) .0) a ≡ percent.Granted p b → p .0 ≤ mostPercent
+  most-by (admission.Admitted c) p b k h =
       subst (λ (n : ℕ). n ≤ mostPercent) (ap (λ (x : PercentAnswer). curve.given x .1) h)
       (percent-most (admitted-ready ds rs ps mode r k refl) (depthIn (depthOn xs v) .0))
-  most-by (admission.BadSheet list place) p k h = let z : _≡_ {A = ℕ} 0 1 = cc in absurd (omega arith)
-  most-by (admission.Refused why) p k h = let z : _≡_ {A = ℕ} 0 1 = cc in absurd (omega arith)
+  most-by (admission.BadSheet list place) p b k h = let z : _≡_ {A = ℕ} 0 1 = cc in absurd (omega arith)
+  most-by (admission.Refused why) p b k h = let z : _≡_ {A = ℕ} 0 1 = cc in absurd (omega arith)
 
-  pub credit-ready : (p : Percent) → found ≡ percent.Granted p → Work xs l (p .0)
-  credit-ready p h =
-      record { areas = w .areas; fits = w .fits; whole = most-by (curve.admissionOf ds rs ps mode r) p refl (told ∙ h) }
+  pub credit-ready : (p : Percent) (b : Basis) → found ≡ percent.Granted p b → Work xs l (p .0)
+  credit-ready p b h =
+      record { areas = w .areas; fits = w .fits; whole = most-by (curve.admissionOf ds rs ps mode r) p b refl (told ∙ h) }
 
--- Where the target is above 100 percent or is not reached, the depth and the percent change nothing.
+-- Where the target is above 100 percent or is not reached, the depth, the percent and the basis change nothing.
 unreached-same : (i b m c : Bool) (x y : CreditAnswer) (last : List (Bool × Refusal)) → (b ≡ true → last ≡ (false, TargetUnreachable) ∷ [])
     → inTurn Refused x ((i, NoImperviousArea) ∷ (b, AmountOutOfRange) ∷ (m, PastLargest) ∷ (c, PastLargest) ∷ (false, TargetUnreachable) ∷ [])
     ≡ inTurn Refused y ((i, NoImperviousArea) ∷ (b, AmountOutOfRange) ∷ (m, PastLargest) ∷ (c, PastLargest) ∷ last)
@@ -152,46 +156,49 @@ unreached-same true true false c x y last e = refl
 unreached-same true true true false x y last e = refl
 unreached-same true true true true x y last e = rw (e refl)
 
-missed-same : (l i : ℕ) (volumeAt percentAt : ℕ → ℕ) (t : ℕ) → (leb t mostPercent ≡ true → leb t (percentAt highestDepth) ≡ false)
-    → sizedAt l i volumeAt t highestDepth 0 false ≡ sizeBy l i volumeAt percentAt t
+missed-same : (l i : ℕ) (volumeAt percentAt : ℕ → ℕ) (bases : ℕ → Basis) (t : ℕ) → (leb t mostPercent ≡ true → leb t (percentAt highestDepth) ≡ false)
+    → sizedAt l i volumeAt t highestDepth 0 None false ≡ sizeBy l i volumeAt percentAt bases t
 unfolding sizedAt sizeBy
-missed-same l i volumeAt percentAt t e =
+missed-same l i volumeAt percentAt bases t e =
     unreached-same (ltb 0 i) (leb t mostPercent) (leb l largest) (leb (volumeAt highestDepth) largest)
-    (Granted (figuresOf l highestDepth 0 (volumeAt highestDepth)))
-    (Granted (figuresOf l (depthReaching percentAt t) (percentAt (depthReaching percentAt t)) (volumeAt (depthReaching percentAt t))))
+    (Granted (figuresOf l highestDepth 0 None (volumeAt highestDepth)))
+    (Granted (figuresOf l (depthReaching percentAt t) (percentAt (depthReaching percentAt t)) (bases (depthReaching percentAt t)) (volumeAt (depthReaching percentAt t))))
     ((leb t (percentAt highestDepth), TargetUnreachable) ∷ [])
     (λ b. ap (λ (x : Bool). (x, TargetUnreachable) ∷ []) (e b))
 
 -- What the least depth of a target says, by the tests of 9 and 10.
-abbrev leastBy : (ℕ → ℕ) → ℕ → Bool → Bool → Reached
-leastBy percentAt t high short = inTurn (λ why. why) (curve.leastFound percentAt t) ((high, reach.TooHigh) ∷ (short, reach.Short) ∷ [])
+abbrev leastBy : (ℕ → ℕ) → (ℕ → Basis) → ℕ → Bool → Bool → Reached
+leastBy percentAt bases t high short = inTurn (λ why. why) (curve.leastFound percentAt bases t) ((high, reach.TooHigh) ∷ (short, reach.Short) ∷ [])
 
 -- It is found, or missed: 5, 6 and 7 are told before it.
 abbrev kindOf : Reached → ℕ
-kindOf (reach.Found d p) = 0
+kindOf (reach.Found d p b) = 0
 kindOf reach.TooHigh = 1
 kindOf reach.Short = 2
 kindOf (reach.BadSheet list place) = 3
 kindOf (reach.Refused why) = 4
 
-module _ (percentAt : ℕ → ℕ) (t : ℕ) where
-  neither : (a b : Bool) {x : Reached} → leastBy percentAt t a b ≡ x → kindOf x ≤ 2
+module _ (percentAt : ℕ → ℕ) (bases : ℕ → Basis) (t : ℕ) where
+  neither : (a b : Bool) {x : Reached} → leastBy percentAt bases t a b ≡ x → kindOf x ≤ 2
   neither false b e = let q = ap kindOf e in omega arith
   neither true false e = let q = ap kindOf e in omega arith
   neither true true e = let q = ap kindOf e in omega arith
 
-  found-by : (a b : Bool) (d : Depth) (p : Percent) → leastBy percentAt t a b ≡ reach.Found d p
-      → (b ≡ true) × (depthReaching percentAt t ≡ d .0) × (percentAt (depthReaching percentAt t) ≡ p .0)
-  found-by false b d p h = let z : _≡_ {A = ℕ} 0 1 = cc in absurd (omega arith)
-  found-by true false d p h = let z : _≡_ {A = ℕ} 0 1 = cc in absurd (omega arith)
-  found-by true true d p h = (refl, ap (λ (x : Reached). curve.reachGiven x .1) h, ap (λ (x : Reached). curve.reachGiven x .2) h)
+  found-by : (a b : Bool) (d : Depth) (p : Percent) (how : Basis) → leastBy percentAt bases t a b ≡ reach.Found d p how
+      → (b ≡ true)
+      × (depthReaching percentAt t ≡ d .0)
+      × (percentAt (depthReaching percentAt t) ≡ p .0)
+      × (bases (depthReaching percentAt t) ≡ how)
+  found-by false b d p how h = let z : _≡_ {A = ℕ} 0 1 = cc in absurd (omega arith)
+  found-by true false d p how h = let z : _≡_ {A = ℕ} 0 1 = cc in absurd (omega arith)
+  found-by true true d p how h = (refl, ap (λ (x : Reached). curve.reachGiven x .1) h, ap (λ (x : Reached). curve.reachGiven x .2) h, cc)
 
-  short-by : (a b : Bool) → leastBy percentAt t a b ≡ reach.Short → a ≡ true → b ≡ false
+  short-by : (a b : Bool) → leastBy percentAt bases t a b ≡ reach.Short → a ≡ true → b ≡ false
   short-by false b h e = cc
   short-by true false h e = refl
   short-by true true h e = cc
 
-  high-by : (a b : Bool) → leastBy percentAt t a b ≡ reach.TooHigh → a ≡ true → b ≡ false
+  high-by : (a b : Bool) → leastBy percentAt bases t a b ≡ reach.TooHigh → a ≡ true → b ≡ false
   high-by false b h e = cc
   high-by true false h e = refl
   high-by true true h e = cc
@@ -202,59 +209,59 @@ module _ (xs : List Area) (l : ℕ) (t : Percent) (ds rs ps : List ℕ) (mode : 
   abbrev reachBy : Admission → Reached
   reachBy a =
       curve.afterAdmission reach.BadSheet reach.Refused
-      (λ c. leastBy (percentAt ds ps c) (t .0) (leb (t .0) mostPercent) (leb (t .0) (percentAt ds ps c highestDepth)))
+      (λ c. leastBy (percentAt ds ps c) (basisAt ds c) (t .0) (leb (t .0) mostPercent) (leb (t .0) (percentAt ds ps c highestDepth)))
       a
 
   -- and the sizing
   abbrev sizedBy : Admission → CreditAnswer
-  sizedBy a = onCurves (λ c. worked (Size t) l (areaAt xs 0) (volumeFrom xs) (percentAt ds ps c)) a
+  sizedBy a = onCurves (λ c. worked (Size t) l (areaAt xs 0) (volumeFrom xs) (percentAt ds ps c) (basisAt ds c)) a
 
   told-by : reachBy (curve.admissionOf ds rs ps mode r) ≡ found
   unfolding curve.reachOf
   told-by = sym f
 
-  sized-by : (a : Admission) (d : Depth) (p : Percent) → reachBy a ≡ reach.Found d p
-      → sizedAt l (areaAt xs 0) (volumeFrom xs) (t .0) (d .0) (p .0) true ≡ sizedBy a
+  sized-by : (a : Admission) (d : Depth) (p : Percent) (b : Basis) → reachBy a ≡ reach.Found d p b
+      → sizedAt l (areaAt xs 0) (volumeFrom xs) (t .0) (d .0) (p .0) b true ≡ sizedBy a
   unfolding sizedAt sizeBy
-  sized-by (admission.Admitted c) d p h =
-      let k = found-by (percentAt ds ps c) (t .0) (leb (t .0) mostPercent) (leb (t .0) (percentAt ds ps c highestDepth)) d p h in
-      rw (k .0, ← k .1, ← k .2)
-  sized-by (admission.BadSheet list place) d p h = cc
-  sized-by (admission.Refused why) d p h = cc
+  sized-by (admission.Admitted c) d p b h =
+      let k = found-by (percentAt ds ps c) (basisAt ds c) (t .0) (leb (t .0) mostPercent) (leb (t .0) (percentAt ds ps c highestDepth)) d p b h in
+      rw (k .0, ← k .1, ← k .2, ← k .3)
+  sized-by (admission.BadSheet list place) d p b h = cc
+  sized-by (admission.Refused why) d p b h = cc
 
-  pub size-worked : (d : Depth) (p : Percent) (answer : CreditAnswer) → found ≡ reach.Found d p
-      → answer ≡ sizedAt l (areaAt xs 0) (volumeFrom xs) (t .0) (d .0) (p .0) true
+  pub size-worked : (d : Depth) (p : Percent) (b : Basis) (answer : CreditAnswer) → found ≡ reach.Found d p b
+      → answer ≡ sizedAt l (areaAt xs 0) (volumeFrom xs) (t .0) (d .0) (p .0) b true
       → answer ≡ onSheet (Size t) l (areaAt xs 0) (volumeFrom xs) ds rs ps mode r
   unfolding onSheet
-  size-worked d p answer h k = k ∙ sized-by (curve.admissionOf ds rs ps mode r) d p (told-by ∙ h)
+  size-worked d p b answer h k = k ∙ sized-by (curve.admissionOf ds rs ps mode r) d p b (told-by ∙ h)
 
   -- A target that is missed is refused by what is tried in turn.
   missed-by : (a : Admission) (x : Reached)
-      → ((c : Curves) → leastBy (percentAt ds ps c) (t .0) (leb (t .0) mostPercent) (leb (t .0) (percentAt ds ps c highestDepth)) ≡ x
+      → ((c : Curves) → leastBy (percentAt ds ps c) (basisAt ds c) (t .0) (leb (t .0) mostPercent) (leb (t .0) (percentAt ds ps c highestDepth)) ≡ x
       → leb (t .0) mostPercent ≡ true → leb (t .0) (percentAt ds ps c highestDepth) ≡ false)
       → kindOf x ≤ 2 → reachBy a ≡ x
-      → sizedAt l (areaAt xs 0) (volumeFrom xs) (t .0) highestDepth 0 false ≡ sizedBy a
-  missed-by (admission.Admitted c) x e q h = missed-same l (areaAt xs 0) (volumeFrom xs) (percentAt ds ps c) (t .0) (e c h)
+      → sizedAt l (areaAt xs 0) (volumeFrom xs) (t .0) highestDepth 0 None false ≡ sizedBy a
+  missed-by (admission.Admitted c) x e q h = missed-same l (areaAt xs 0) (volumeFrom xs) (percentAt ds ps c) (basisAt ds c) (t .0) (e c h)
   missed-by (admission.BadSheet list place) x e q h = let z = ap kindOf h in absurd (omega arith)
   missed-by (admission.Refused why) x e q h = let z = ap kindOf h in absurd (omega arith)
 
-  module _ (answer : CreditAnswer) (k : answer ≡ sizedAt l (areaAt xs 0) (volumeFrom xs) (t .0) highestDepth 0 false) where
+  module _ (answer : CreditAnswer) (k : answer ≡ sizedAt l (areaAt xs 0) (volumeFrom xs) (t .0) highestDepth 0 None false) where
     pub size-short : found ≡ reach.Short → answer ≡ onSheet (Size t) l (areaAt xs 0) (volumeFrom xs) ds rs ps mode r
     unfolding onSheet
     size-short h =
         k ∙ missed-by (curve.admissionOf ds rs ps mode r) reach.Short
-        (λ c. short-by (percentAt ds ps c) (t .0) (leb (t .0) mostPercent) (leb (t .0) (percentAt ds ps c highestDepth)))
+        (λ c. short-by (percentAt ds ps c) (basisAt ds c) (t .0) (leb (t .0) mostPercent) (leb (t .0) (percentAt ds ps c highestDepth)))
         (omega arith) (told-by ∙ h)
 
     pub size-high : found ≡ reach.TooHigh → answer ≡ onSheet (Size t) l (areaAt xs 0) (volumeFrom xs) ds rs ps mode r
     unfolding onSheet
     size-high h =
         k ∙ missed-by (curve.admissionOf ds rs ps mode r) reach.TooHigh
-        (λ c. high-by (percentAt ds ps c) (t .0) (leb (t .0) mostPercent) (leb (t .0) (percentAt ds ps c highestDepth)))
+        (λ c. high-by (percentAt ds ps c) (basisAt ds c) (t .0) (leb (t .0) mostPercent) (leb (t .0) (percentAt ds ps c highestDepth)))
         (omega arith) (told-by ∙ h)
 
   bad-by : (a : Admission) (list place : ℕ) → reachBy a ≡ reach.BadSheet list place → BadSheet list place ≡ sizedBy a
-  bad-by (admission.Admitted c) list place h = let z = neither (percentAt ds ps c) (t .0) (leb (t .0) mostPercent) (leb (t .0) (percentAt ds ps c highestDepth)) h in absurd (omega arith)
+  bad-by (admission.Admitted c) list place h = let z = neither (percentAt ds ps c) (basisAt ds c) (t .0) (leb (t .0) mostPercent) (leb (t .0) (percentAt ds ps c highestDepth)) h in absurd (omega arith)
   bad-by (admission.BadSheet n q) list place h = cc
   bad-by (admission.Refused why) list place h = cc
 
@@ -264,7 +271,7 @@ module _ (xs : List Area) (l : ℕ) (t : Percent) (ds rs ps : List ℕ) (mode : 
   size-bad list place h = bad-by (curve.admissionOf ds rs ps mode r) list place (told-by ∙ h)
 
   refused-by : (a : Admission) (why : Refusal) → reachBy a ≡ reach.Refused why → Refused why ≡ sizedBy a
-  refused-by (admission.Admitted c) why h = let z = neither (percentAt ds ps c) (t .0) (leb (t .0) mostPercent) (leb (t .0) (percentAt ds ps c highestDepth)) h in absurd (omega arith)
+  refused-by (admission.Admitted c) why h = let z = neither (percentAt ds ps c) (basisAt ds c) (t .0) (leb (t .0) mostPercent) (leb (t .0) (percentAt ds ps c highestDepth)) h in absurd (omega arith)
   refused-by (admission.BadSheet n q) why h = cc
   refused-by (admission.Refused u) why h = cc
 
@@ -273,20 +280,20 @@ module _ (xs : List Area) (l : ℕ) (t : Percent) (ds rs ps : List ℕ) (mode : 
   size-stopped why h = refused-by (curve.admissionOf ds rs ps mode r) why (told-by ∙ h)
 
   -- A depth that was found is on the grid, and its percent is at most 100 percent.
-  ready-by : (a : Admission) (d : Depth) (p : Percent) → a ≡ curve.admissionOf ds rs ps mode r → reachBy a ≡ reach.Found d p
+  ready-by : (a : Admission) (d : Depth) (p : Percent) (b : Basis) → a ≡ curve.admissionOf ds rs ps mode r → reachBy a ≡ reach.Found d p b
       → (p .0 ≤ mostPercent) × (d .0 ≤ highestDepth)
-  ready-by (admission.Admitted c) d p e h =
-      let k = found-by (percentAt ds ps c) (t .0) (leb (t .0) mostPercent) (leb (t .0) (percentAt ds ps c highestDepth)) d p h in
+  ready-by (admission.Admitted c) d p b e h =
+      let k = found-by (percentAt ds ps c) (basisAt ds c) (t .0) (leb (t .0) mostPercent) (leb (t .0) (percentAt ds ps c highestDepth)) d p b h in
       let m = percent-most (admitted-ready ds rs ps mode r e refl) (depthReaching (percentAt ds ps c) (t .0)) in
       let g = fails-so-below (λ n. ltb (percentAt ds ps c n) (t .0)) gridDepths highestDepth
       (le-ltb (percentAt ds ps c highestDepth) (t .0) (leb-true (t .0) (percentAt ds ps c highestDepth) (k .0))) in
       (omega arith, omega arith)
-  ready-by (admission.BadSheet list place) d p e h = let z : _≡_ {A = ℕ} 0 1 = cc in absurd (omega arith)
-  ready-by (admission.Refused why) d p e h = let z : _≡_ {A = ℕ} 0 1 = cc in absurd (omega arith)
+  ready-by (admission.BadSheet list place) d p b e h = let z : _≡_ {A = ℕ} 0 1 = cc in absurd (omega arith)
+  ready-by (admission.Refused why) d p b e h = let z : _≡_ {A = ℕ} 0 1 = cc in absurd (omega arith)
 
-  pub size-ready : (d : Depth) (p : Percent) → found ≡ reach.Found d p → Work xs l (p .0)
-  size-ready d p h =
-      record { areas = w .areas; fits = w .fits; whole = ready-by (curve.admissionOf ds rs ps mode r) d p refl (told-by ∙ h) .0 }
+  pub size-ready : (d : Depth) (p : Percent) (b : Basis) → found ≡ reach.Found d p b → Work xs l (p .0)
+  size-ready d p b h =
+      record { areas = w .areas; fits = w .fits; whole = ready-by (curve.admissionOf ds rs ps mode r) d p b refl (told-by ∙ h) .0 }
 
-  pub size-on-grid : (d : Depth) (p : Percent) → found ≡ reach.Found d p → d .0 ≤ highestDepth
-  size-on-grid d p h = ready-by (curve.admissionOf ds rs ps mode r) d p refl (told-by ∙ h) .1
+  pub size-on-grid : (d : Depth) (p : Percent) (b : Basis) → found ≡ reach.Found d p b → d .0 ≤ highestDepth
+  size-on-grid d p b h = ready-by (curve.admissionOf ds rs ps mode r) d p b refl (told-by ∙ h) .1

@@ -25,7 +25,7 @@ use Rattle.credit.specs.declared.CreditAnswer.{CreditAnswer}
 use Rattle.credit.specs.declared.CreditAnswer.the-variants.{Refused}
 use Rattle.credit.specs.declared.Wanted.{Wanted}
 use Rattle.credit.specs.Answers.{Sheet, lent, published, credit, size, onSheet, onParts, bySheet, answerOf, given}
-use Rattle.credit.specs.Promises.{depthsIn, ratesIn, percentsIn, percentOn, isThere, Accepted, CreditGrantedExactly, SizeGrantedExactly}
+use Rattle.credit.specs.Promises.{depthsIn, ratesIn, percentsIn, percentOn, basisOn, isThere, Accepted, CreditGrantedExactly, SizeGrantedExactly}
 use Rattle.refusal.proofs.Numbers.{refusal-not-granted}
 use Rattle.loads.proofs.Permit.{load-within}
 use Rattle.credit.proofs.Passing.{granted-pass}
@@ -63,7 +63,7 @@ accepted sheet wanted n s mode r granting = told (judged s) refl granting
 -- Where a sheet is there and accepted, its percents decide.
 pub sheet-works : (sheet : Sheet) (wanted : Wanted) (n : Nutrient) (parts : List SubArea) (mode : Mode) (r : ℕ)
     → isThere sheet n ≡ true → Usable (depthsIn sheet) (ratesIn sheet n) (percentsIn sheet n) r
-    → bySheet sheet wanted n parts mode r ≡ onPercents wanted n parts (percentOn sheet n mode r)
+    → bySheet sheet wanted n parts mode r ≡ onPercents wanted n parts (percentOn sheet n mode r) (basisOn sheet n mode r)
 unfolding onSheet
 sheet-works (lent ds rs ps) wanted n parts mode r t p = rw (sheet-admitted ds rs ps mode r p)
 sheet-works (published practice) wanted n parts mode r t p =

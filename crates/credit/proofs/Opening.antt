@@ -28,9 +28,11 @@ use Rattle.sheet.specs.Sheet.{verdictOf}
 use Rattle.sheet.proofs.Rules.{fine-rules, rules-fine}
 use Rattle.curve.specs.declared.Mode.{Mode}
 use Rattle.curve.specs.declared.Curves.{Curves}
+use Rattle.curve.specs.declared.Basis.{Basis}
 use Rattle.curve.specs.declared.Admission.{Admission}
 use Rattle.curve.specs.declared.Admission.the-variants as admission
 use Rattle.curve.specs.Curve.{curvesOf, percentOf, depthReaching}
+use Rattle.curve.specs.Basis.{basisOf}
 use Rattle.curve.specs.Answers.{fastestTaken, rated, judgedFirst, admissionOf}
 use Rattle.curve.specs.Promises as curve
 use Rattle.curve.proofs.Answering.{rate-taken, fine-rated}
@@ -43,7 +45,7 @@ use Rattle.credit.specs.declared.Wanted.{Wanted}
 use Rattle.credit.specs.declared.Wanted.the-variants.{Credit, Size}
 use Rattle.credit.specs.Credit.{figuresOf}
 use Rattle.credit.specs.Answers.{Sheet, lent, published, credit, size, worked, onSheet, onParts, bySheet, answerOf, given}
-use Rattle.credit.specs.Promises.{depthsIn, ratesIn, percentsIn, percentOn, Credited, Sized}
+use Rattle.credit.specs.Promises.{depthsIn, ratesIn, percentsIn, percentOn, basisOn, Credited, Sized}
 use Rattle.refusal.proofs.Numbers.{refusal-not-granted}
 use Rattle.credit.proofs.Admitting.{onCurves, curves-turn}
 use Rattle.credit.proofs.Passing.{granted-pass, Within, credit-passed, credit-works, size-passed, size-works, size-short}
@@ -76,20 +78,20 @@ pub sheet-admitted : (ds rs ps : List ℕ) (mode : Mode) (r : ℕ) → curve.Usa
     → admissionOf ds rs ps mode r ≡ admission.Admitted (curvesOf rs mode r)
 sheet-admitted ds rs ps mode r p = sym (fine-rated ds rs ps refl mode r (rules-fine ds rs ps (p .rules)) (rate-taken rs mode refl (p .taken) (p .slowest) refl))
 
--- what is wanted of sub-areas, by the percents of a sheet
-abbrev pub onPercents : Wanted → Nutrient → List SubArea → (ℕ → ℕ) → CreditAnswer
-onPercents wanted n parts percents = worked wanted (loadOf (rates.exportRates n) parts) (imperviousArea parts) (volumeOf parts) percents
+-- what is wanted of sub-areas, by the percents of a sheet and their bases
+abbrev pub onPercents : Wanted → Nutrient → List SubArea → (ℕ → ℕ) → (ℕ → Basis) → CreditAnswer
+onPercents wanted n parts percents bases = worked wanted (loadOf (rates.exportRates n) parts) (imperviousArea parts) (volumeOf parts) percents bases
 
 -- A site, a sheet and a rate that are refused nothing but an amount: whatever is wanted, its answer is worked out by the percents.
 pub record Open (sheet : Sheet) (n : Nutrient) (s : Site) (mode : Mode) (r : ℕ) : Type 0 where
   pub accepted : curve.Usable (depthsIn sheet) (ratesIn sheet n) (percentsIn sheet n) r
   pub within : Within (loadOf (rates.exportRates n) (partsOf s)) (imperviousArea (partsOf s)) (volumeOf (partsOf s))
-  pub works : (wanted : Wanted) → answerOf sheet wanted n s mode r ≡ onPercents wanted n (partsOf s) (percentOn sheet n mode r)
+  pub works : (wanted : Wanted) → answerOf sheet wanted n s mode r ≡ onPercents wanted n (partsOf s) (percentOn sheet n mode r) (basisOn sheet n mode r)
 
 module _ (n : Nutrient) (parts : List SubArea) (mode : Mode) (r : ℕ) where
   -- What is wanted has no part in the tests of a sheet.
   lists-open : (ds rs ps : List ℕ) (wanted : Wanted) → given (onParts wanted n parts ds rs ps mode r) .answer ≡ granted
-      → curve.Usable ds rs ps r × ((other : Wanted) → onParts other n parts ds rs ps mode r ≡ onPercents other n parts (percentOf ds rs ps mode r))
+      → curve.Usable ds rs ps r × ((other : Wanted) → onParts other n parts ds rs ps mode r ≡ onPercents other n parts (percentOf ds rs ps mode r) (basisOf ds rs mode r))
   unfolding onSheet
   lists-open ds rs ps wanted g =
       let p = sheet-passed ds rs ps mode r _ g in
@@ -97,7 +99,7 @@ module _ (n : Nutrient) (parts : List SubArea) (mode : Mode) (r : ℕ) where
 
   sheet-opens : (sheet : Sheet) (wanted : Wanted) → given (bySheet sheet wanted n parts mode r) .answer ≡ granted
       → curve.Usable (depthsIn sheet) (ratesIn sheet n) (percentsIn sheet n) r
-      × ((other : Wanted) → bySheet sheet other n parts mode r ≡ onPercents other n parts (percentOn sheet n mode r))
+      × ((other : Wanted) → bySheet sheet other n parts mode r ≡ onPercents other n parts (percentOn sheet n mode r) (basisOn sheet n mode r))
   sheet-opens (lent ds rs ps) wanted g = lists-open ds rs ps wanted g
   sheet-opens (published practice) wanted g =
       let rs = ratesOf practice n in
@@ -107,10 +109,10 @@ module _ (n : Nutrient) (parts : List SubArea) (mode : Mode) (r : ℕ) where
       (l .0, λ other. simp (p .0 .0) (l .1 other))
 
   -- Crediting and sizing ask alike for impervious area, and for a load and a V(200) within 10^13.
-  work-within : (wanted : Wanted) (percents : ℕ → ℕ) → given (onPercents wanted n parts percents) .answer ≡ granted
+  work-within : (wanted : Wanted) (percents : ℕ → ℕ) (bases : ℕ → Basis) → given (onPercents wanted n parts percents bases) .answer ≡ granted
       → Within (loadOf (rates.exportRates n) parts) (imperviousArea parts) (volumeOf parts)
-  work-within (Credit v) percents g = credit-passed _ _ _ percents (v .0) g .0
-  work-within (Size target) percents g = size-passed _ _ _ percents (target .0) g .0
+  work-within (Credit v) percents bases g = credit-passed _ _ _ percents bases (v .0) g .0
+  work-within (Size target) percents bases g = size-passed _ _ _ percents bases (target .0) g .0
 
 module _ {sheet : Sheet} {n : Nutrient} {s : Site} {mode : Mode} {r : ℕ} where
   pub granted-opens : (wanted : Wanted) → given (answerOf sheet wanted n s mode r) .answer ≡ granted → Open sheet n s mode r
@@ -124,7 +126,7 @@ module _ {sheet : Sheet} {n : Nutrient} {s : Site} {mode : Mode} {r : ℕ} where
           let p = sheet-opens n (partsOf s) mode r sheet wanted g in
           record {
             accepted = p .0;
-            within = work-within n (partsOf s) mode r wanted (percentOn sheet n mode r) (rw (p .1 wanted) at g);
+            within = work-within n (partsOf s) mode r wanted (percentOn sheet n mode r) (basisOn sheet n mode r) (rw (p .1 wanted) at g);
             works = λ other. rw j (p .1 other);
           }
       told (area.Refused why) j g = absurd (refusal-not-granted why g)
@@ -132,19 +134,19 @@ module _ {sheet : Sheet} {n : Nutrient} {s : Site} {mode : Mode} {r : ℕ} where
 module _ {sheet : Sheet} {n : Nutrient} {s : Site} {mode : Mode} {r : ℕ} (o : Open sheet n s mode r) where
   -- A credit is granted for a volume up to 10^13, and for no other.
   pub credit-within : (v : ℕ) → Credited sheet n s mode r v .answer ≡ granted → v ≤ largest
-  credit-within v g = credit-passed _ _ _ (percentOn sheet n mode r) v (rw (o .works (credit v)) at g) .1
+  credit-within v g = credit-passed _ _ _ (percentOn sheet n mode r) (basisOn sheet n mode r) v (rw (o .works (credit v)) at g) .1
 
   pub credit-is : (v : ℕ) → v ≤ largest
       → answerOf sheet (credit v) n s mode r
-      ≡ Granted (figuresOf (loadOf (rates.exportRates n) (partsOf s)) (depthOf (partsOf s) v) (percentOn sheet n mode r (depthOf (partsOf s) v)) v)
+      ≡ Granted (figuresOf (loadOf (rates.exportRates n) (partsOf s)) (depthOf (partsOf s) v) (percentOn sheet n mode r (depthOf (partsOf s) v)) (basisOn sheet n mode r (depthOf (partsOf s) v)) v)
   unfolding depthOf
-  credit-is v h = o .works (credit v) ∙ credit-works _ _ _ (percentOn sheet n mode r) v (o .within) h
+  credit-is v h = o .works (credit v) ∙ credit-works _ _ _ (percentOn sheet n mode r) (basisOn sheet n mode r) v (o .within) h
 
   -- A size is granted for a target up to 100 percent and up to the percent at depth 200, and for no other.
   pub size-within : (target : ℕ) → Sized sheet n s mode r target .answer ≡ granted
       → (target ≤ mostPercent) × (target ≤ percentOn sheet n mode r highestDepth)
   size-within target g =
-      let p = size-passed _ _ _ (percentOn sheet n mode r) target (rw (o .works (size target)) at g) in
+      let p = size-passed _ _ _ (percentOn sheet n mode r) (basisOn sheet n mode r) target (rw (o .works (size target)) at g) in
       (p .1, p .2)
 
   module _ (target : ℕ) (h : target ≤ mostPercent) where
@@ -153,11 +155,11 @@ module _ {sheet : Sheet} {n : Nutrient} {s : Site} {mode : Mode} {r : ℕ} (o : 
 
     pub size-is : target ≤ percentOn sheet n mode r highestDepth
         → answerOf sheet (size target) n s mode r
-        ≡ Granted (figuresOf (loadOf (rates.exportRates n) (partsOf s)) depth (percentOn sheet n mode r depth) (volumeOf (partsOf s) depth))
-    size-is l = o .works (size target) ∙ size-works _ _ _ (percentOn sheet n mode r) target (o .within) h l
+        ≡ Granted (figuresOf (loadOf (rates.exportRates n) (partsOf s)) depth (percentOn sheet n mode r depth) (basisOn sheet n mode r depth) (volumeOf (partsOf s) depth))
+    size-is l = o .works (size target) ∙ size-works _ _ _ (percentOn sheet n mode r) (basisOn sheet n mode r) target (o .within) h l
 
     pub size-unreachable : percentOn sheet n mode r highestDepth < target → answerOf sheet (size target) n s mode r ≡ Refused TargetUnreachable
-    size-unreachable l = o .works (size target) ∙ size-short _ _ _ (percentOn sheet n mode r) target (o .within) h l
+    size-unreachable l = o .works (size target) ∙ size-short _ _ _ (percentOn sheet n mode r) (basisOn sheet n mode r) target (o .within) h l
 
   -- On an accepted sheet the percent never falls with depth.
   pub percent-mono : (d e : ℕ) → d ≤ e → percentOn sheet n mode r d ≤ percentOn sheet n mode r e

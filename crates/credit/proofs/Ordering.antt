@@ -19,6 +19,7 @@ use Rattle.site.specs.declared.AreaAnswer.the-variants as area
 use Rattle.site.specs.Parts.{partsOf, imperviousArea}
 use Rattle.site.specs.Judging.{judged, afterJudging, given as areaGiven}
 use Rattle.curve.specs.declared.Mode.{Mode}
+use Rattle.curve.specs.declared.Basis.{Basis}
 use Rattle.curve.specs.declared.Admission.the-variants as admission
 use Rattle.curve.specs.Answers.{admissionOf}
 use Rattle.curve.proofs.Refusing.{unfit-told, fast-told, slow-told}
@@ -28,23 +29,23 @@ use Rattle.credit.specs.declared.Wanted.{Wanted}
 use Rattle.credit.specs.declared.Wanted.the-variants.{Credit, Size}
 use Rattle.credit.specs.Credit.{creditBy, sizeBy}
 use Rattle.credit.specs.Answers.{Sheet, lent, published, credit, size, worked, onSheet, onParts, bySheet, answerOf, refusedWith, given}
-use Rattle.credit.specs.Promises.{depthsIn, ratesIn, percentsIn, percentOn, isThere, Begun, RefusedInOrder}
+use Rattle.credit.specs.Promises.{depthsIn, ratesIn, percentsIn, percentOn, basisOn, isThere, Begun, RefusedInOrder}
 use Rattle.credit.proofs.Opening.{size-unreachable}
 use Rattle.credit.proofs.Granting.{sheet-works, opened}
 
 -- 8 is tried first of a site, and 9 next.
-module _ (load impervious : ℕ) (volumeAt percents : ℕ → ℕ) where
-  worked-bare : (wanted : Wanted) → impervious ≡ 0 → worked wanted load impervious volumeAt percents ≡ Refused NoImperviousArea
+module _ (load impervious : ℕ) (volumeAt percents : ℕ → ℕ) (bases : ℕ → Basis) where
+  worked-bare : (wanted : Wanted) → impervious ≡ 0 → worked wanted load impervious volumeAt percents bases ≡ Refused NoImperviousArea
   unfolding creditBy sizeBy
   worked-bare (Credit v) e = rw e
   worked-bare (Size target) e = rw e
 
   module _ (some : 0 < impervious) where
-    credit-past : (v : ℕ) → largest < v → creditBy load impervious volumeAt percents v ≡ Refused AmountOutOfRange
+    credit-past : (v : ℕ) → largest < v → creditBy load impervious volumeAt percents bases v ≡ Refused AmountOutOfRange
     unfolding creditBy
     credit-past v h = simp (lt-ltb 0 impervious some, lt-leb v largest h)
 
-    size-past : (target : ℕ) → mostPercent < target → sizeBy load impervious volumeAt percents target ≡ Refused AmountOutOfRange
+    size-past : (target : ℕ) → mostPercent < target → sizeBy load impervious volumeAt percents bases target ≡ Refused AmountOutOfRange
     unfolding sizeBy
     size-past target h = simp (lt-ltb 0 impervious some, lt-leb target mostPercent h)
 
@@ -114,12 +115,12 @@ refused-in-order sheet n s mode r =
           ap given
           (goes-to-sheet sheet n s mode r wanted (b .fine)
           ∙ sheet-works sheet wanted n (partsOf s) mode r (b .there) u
-          ∙ worked-bare _ (imperviousArea (partsOf s)) _ (percentOn sheet n mode r) wanted e);
+          ∙ worked-bare _ (imperviousArea (partsOf s)) _ (percentOn sheet n mode r) (basisOn sheet n mode r) wanted e);
       volume-past = λ a v h.
           let o = opened sheet n s mode r a in
-          ap given (o .works (credit v) ∙ credit-past _ _ _ (percentOn sheet n mode r) (o .within .some-impervious) v h);
+          ap given (o .works (credit v) ∙ credit-past _ _ _ (percentOn sheet n mode r) (basisOn sheet n mode r) (o .within .some-impervious) v h);
       target-past = λ a target h.
           let o = opened sheet n s mode r a in
-          ap given (o .works (size target) ∙ size-past _ _ _ (percentOn sheet n mode r) (o .within .some-impervious) target h);
+          ap given (o .works (size target) ∙ size-past _ _ _ (percentOn sheet n mode r) (basisOn sheet n mode r) (o .within .some-impervious) target h);
       unreachable = λ a target h l. ap given (size-unreachable (opened sheet n s mode r a) target h l);
     }

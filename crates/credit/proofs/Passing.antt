@@ -15,6 +15,7 @@ use Rattle.units.specs.Limits.{largest, mostPercent, highestDepth}
 use Rattle.credit.specs.declared.CreditAnswer.{CreditAnswer}
 use Rattle.credit.specs.declared.CreditAnswer.the-variants.{Granted, Refused}
 use Rattle.volume.specs.Volume.{depthWithin}
+use Rattle.curve.specs.declared.Basis.{Basis}
 use Rattle.curve.specs.Curve.{depthReaching}
 use Rattle.credit.specs.Credit.{figuresOf, tried, creditBy, sizeBy}
 use Rattle.credit.specs.Answers.{given}
@@ -39,7 +40,7 @@ pub record Within (load impervious : ℕ) (volumeAt : ℕ → ℕ) : Type 0 wher
   pub load-within : load ≤ largest
   pub volumes-within : volumeAt highestDepth ≤ largest
 
-module _ (load impervious : ℕ) (volumeAt percentAt : ℕ → ℕ) where
+module _ (load impervious : ℕ) (volumeAt percentAt : ℕ → ℕ) (basisAt : ℕ → Basis) where
   module _ (a : CreditAnswer) (amount : Bool) (rest : List (Bool × Refusal)) where
     all-passed : given (inTurn Refused a (tried load impervious volumeAt amount rest)) .answer ≡ granted → Within load impervious volumeAt × (amount ≡ true) × Pass rest
     all-passed g =
@@ -65,15 +66,15 @@ module _ (load impervious : ℕ) (volumeAt percentAt : ℕ → ℕ) where
   -- Crediting is granted where 8, 9 and 15 pass, and nowhere else.
   module _ (v : ℕ) where
     abbrev pub credited : CreditAnswer
-    credited = Granted (figuresOf load (depthWithin volumeAt v) (percentAt (depthWithin volumeAt v)) v)
+    credited = Granted (figuresOf load (depthWithin volumeAt v) (percentAt (depthWithin volumeAt v)) (basisAt (depthWithin volumeAt v)) v)
 
-    pub credit-passed : given (creditBy load impervious volumeAt percentAt v) .answer ≡ granted → Within load impervious volumeAt × (v ≤ largest)
+    pub credit-passed : given (creditBy load impervious volumeAt percentAt basisAt v) .answer ≡ granted → Within load impervious volumeAt × (v ≤ largest)
     unfolding creditBy
     credit-passed g =
         let p = all-passed credited (leb v largest) [] g in
         (p .0, leb-true v largest (p .1))
 
-    pub credit-works : Within load impervious volumeAt → v ≤ largest → creditBy load impervious volumeAt percentAt v ≡ credited
+    pub credit-works : Within load impervious volumeAt → v ≤ largest → creditBy load impervious volumeAt percentAt basisAt v ≡ credited
     unfolding creditBy
     credit-works w h = rest-decides credited (leb v largest) [] w (le-leb v largest h)
 
@@ -82,12 +83,12 @@ module _ (load impervious : ℕ) (volumeAt percentAt : ℕ → ℕ) where
     abbrev pub sized : CreditAnswer
     sized =
         Granted
-        (figuresOf load (depthReaching percentAt target) (percentAt (depthReaching percentAt target)) (volumeAt (depthReaching percentAt target)))
+        (figuresOf load (depthReaching percentAt target) (percentAt (depthReaching percentAt target)) (basisAt (depthReaching percentAt target)) (volumeAt (depthReaching percentAt target)))
 
     abbrev pub reached : List (Bool × Refusal)
     reached = (leb target (percentAt highestDepth), refused.TargetUnreachable) ∷ []
 
-    pub size-passed : given (sizeBy load impervious volumeAt percentAt target) .answer ≡ granted
+    pub size-passed : given (sizeBy load impervious volumeAt percentAt basisAt target) .answer ≡ granted
         → Within load impervious volumeAt × (target ≤ mostPercent) × (target ≤ percentAt highestDepth)
     unfolding sizeBy
     size-passed g =
@@ -95,13 +96,13 @@ module _ (load impervious : ℕ) (volumeAt percentAt : ℕ → ℕ) where
         (p .0, leb-true target mostPercent (p .1), leb-true target (percentAt highestDepth) (p .2 .0))
 
     module _ (w : Within load impervious volumeAt) (h : target ≤ mostPercent) where
-      pub size-works : target ≤ percentAt highestDepth → sizeBy load impervious volumeAt percentAt target ≡ sized
+      pub size-works : target ≤ percentAt highestDepth → sizeBy load impervious volumeAt percentAt basisAt target ≡ sized
       unfolding sizeBy
       size-works l =
           rest-decides sized (leb target mostPercent) reached w (le-leb target mostPercent h)
           ∙ simp (le-leb target (percentAt highestDepth) l)
 
-      pub size-short : percentAt highestDepth < target → sizeBy load impervious volumeAt percentAt target ≡ Refused refused.TargetUnreachable
+      pub size-short : percentAt highestDepth < target → sizeBy load impervious volumeAt percentAt basisAt target ≡ Refused refused.TargetUnreachable
       unfolding sizeBy
       size-short l =
           rest-decides sized (leb target mostPercent) reached w (le-leb target mostPercent h)

@@ -27,21 +27,21 @@ use Rattle.credit.specs.Credit.{figuresOf}
 use Rattle.credit.specs.Answers.{Sheet, credit, size, answerOf, given, published}
 use Rattle.site.proofs.Promises as site
 use Rattle.published.proofs.FasterRates.{none-falls-with-rate}
-use Rattle.credit.specs.Promises.{depthsIn, ratesIn, percentsIn, percentOn, CreditIsByTheTables, SizeIsByTheTables, MoreStorageNeverLess, HigherTargetNeverSmaller, SizedIsLeast, UnreachableExactly, FasterSoilNeverLess, FasterSoilOnTheTables, SizingAgrees, PastCountUnread}
+use Rattle.credit.specs.Promises.{depthsIn, ratesIn, percentsIn, percentOn, basisOn, CreditIsByTheTables, SizeIsByTheTables, MoreStorageNeverLess, HigherTargetNeverSmaller, SizedIsLeast, UnreachableExactly, FasterSoilNeverLess, FasterSoilOnTheTables, SizingAgrees, PastCountUnread}
 use Rattle.credit.proofs.Depths.{depth-mono, depth-below, depth-back, before-reaching, reaching-mono, reaching-on-grid, reaching-reaches}
 use Rattle.credit.proofs.Opening.{Open, granted-opens, credit-within, credit-is, size-within, size-is, size-unreachable, percent-mono}
 
 pub credit-is-by-the-tables : CreditIsByTheTables
 credit-is-by-the-tables sheet n s mode r v g =
     let o : Open sheet n s mode r = granted-opens (credit v) g in
-    rw (credit-is o v (credit-within o v g)) (refl, refl, refl, refl, refl)
+    rw (credit-is o v (credit-within o v g)) (refl, refl, refl, refl, refl, refl)
 
 pub size-is-by-the-tables : SizeIsByTheTables
 size-is-by-the-tables sheet n s mode r target g =
     let o : Open sheet n s mode r = granted-opens (size target) g in
     let l = size-within o target g in
     rw (size-is o target (l .0) (l .1))
-    (refl, finds-the-least (depthsIn sheet) (ratesIn sheet n) (percentsIn sheet n) mode r target (o .accepted) (l .1), refl, refl, refl)
+    (refl, finds-the-least (depthsIn sheet) (ratesIn sheet n) (percentsIn sheet n) mode r target (o .accepted) (l .1), refl, refl, refl, refl)
 
 pub more-storage-never-less : MoreStorageNeverLess
 more-storage-never-less sheet n s mode r v w h g k =
@@ -73,7 +73,7 @@ module _ {sheet : Sheet} {n : Nutrient} {s : Site} {mode : Mode} {r : ℕ} (o : 
   -- with the percent of that depth.
   volume-is : (d : ℕ) → d ≤ highestDepth
       → answerOf sheet (credit (volumeOf (partsOf s) d)) n s mode r
-      ≡ Granted (figuresOf (loadOf (rates.exportRates n) (partsOf s)) d (percentOn sheet n mode r d) (volumeOf (partsOf s) d))
+      ≡ Granted (figuresOf (loadOf (rates.exportRates n) (partsOf s)) d (percentOn sheet n mode r d) (basisOn sheet n mode r d) (volumeOf (partsOf s) d))
   volume-is d h =
       credit-is o (volumeOf (partsOf s) d) (volume-within d h) ∙ rw (depth-back (partsOf s) d (o .within .some-impervious) h)
 

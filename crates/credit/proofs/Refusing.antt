@@ -24,7 +24,9 @@ use Rattle.sheet.specs.Sheet.{verdictOf}
 use Rattle.curve.specs.declared.Mode.{Mode}
 use Rattle.curve.specs.declared.Curves.{Curves}
 use Rattle.curve.specs.declared.Admission.the-variants as admission
+use Rattle.curve.specs.declared.Basis.{Basis}
 use Rattle.curve.specs.Curve.{curvesOf, percentAt}
+use Rattle.curve.specs.Basis.{basisAt}
 use Rattle.curve.specs.Answers.{fastestTaken, rated, judgedFirst, admissionOf}
 use Rattle.published.specs.Tables.{depths}
 use Rattle.published.specs.Published.{ratesOf, percentsOf, isPublished}
@@ -53,15 +55,15 @@ turn-elsewhere a [] h t = h
 turn-elsewhere a ((true, why) ∷ tests) h t = turn-elsewhere a tests h (t .1)
 turn-elsewhere a ((false, why) ∷ tests) h t = t .0
 
-worked-elsewhere : (wanted : Wanted) (load impervious : ℕ) (volumeAt percents : ℕ → ℕ)
-    → elsewhere (given (worked wanted load impervious volumeAt percents) .answer) ≡ true
+worked-elsewhere : (wanted : Wanted) (load impervious : ℕ) (volumeAt percents : ℕ → ℕ) (bases : ℕ → Basis)
+    → elsewhere (given (worked wanted load impervious volumeAt percents bases) .answer) ≡ true
 unfolding creditBy sizeBy
-worked-elsewhere (Credit v) load impervious volumeAt percents =
-    turn-elsewhere (credited load impervious volumeAt percents (v .0)) (tried load impervious volumeAt (leb (v .0) largest) [])
+worked-elsewhere (Credit v) load impervious volumeAt percents bases =
+    turn-elsewhere (credited load impervious volumeAt percents bases (v .0)) (tried load impervious volumeAt (leb (v .0) largest) [])
     refl (refl, (refl, (refl, (refl, tt))))
-worked-elsewhere (Size target) load impervious volumeAt percents =
-    turn-elsewhere (sized load impervious volumeAt percents (target .0))
-    (tried load impervious volumeAt (leb (target .0) mostPercent) (reached load impervious volumeAt percents (target .0)))
+worked-elsewhere (Size target) load impervious volumeAt percents bases =
+    turn-elsewhere (sized load impervious volumeAt percents bases (target .0))
+    (tried load impervious volumeAt (leb (target .0) mostPercent) (reached load impervious volumeAt percents bases (target .0)))
     refl (refl, (refl, (refl, (refl, (refl, tt)))))
 
 sheet-elsewhere : (wanted : Wanted) (load impervious : ℕ) (volumeAt : ℕ → ℕ) (ds rs ps : List ℕ) (mode : Mode) (r : ℕ)
@@ -70,12 +72,12 @@ unfolding onSheet admissionOf rated
 sheet-elsewhere wanted load impervious volumeAt ds rs ps mode r = told (verdictOf ds rs ps)
   where
     onward : Curves → CreditAnswer
-    onward c = worked wanted load impervious volumeAt (percentAt ds ps c)
+    onward c = worked wanted load impervious volumeAt (percentAt ds ps c) (basisAt ds c)
 
     told : (x : Verdict) → elsewhere (given (onCurves onward (judgedFirst x (rated rs mode r))) .answer) ≡ true
     told Fine =
         rw (curves-turn onward (admission.Admitted (curvesOf rs mode r)) (rateTests ds rs ps mode r onward))
-        (turn-elsewhere _ (rateTests ds rs ps mode r onward) (worked-elsewhere wanted load impervious volumeAt (percentAt ds ps (curvesOf rs mode r))) (refl, (refl, tt)))
+        (turn-elsewhere _ (rateTests ds rs ps mode r onward) (worked-elsewhere wanted load impervious volumeAt (percentAt ds ps (curvesOf rs mode r)) (basisAt ds (curvesOf rs mode r))) (refl, (refl, tt)))
     told (Unfit list place) = refl
 
 by-elsewhere : (sheet : Sheet) (wanted : Wanted) (n : Nutrient) (parts : List SubArea) (mode : Mode) (r : ℕ)

@@ -14,7 +14,10 @@ use Rattle.loads.specs.Rates as rates
 use Rattle.loads.specs.Loads.{loadOf}
 use Rattle.volume.specs.Volume.{volumeOf}
 use Rattle.curve.specs.declared.Mode.{Mode}
+use Rattle.curve.specs.declared.Basis.{Basis}
+use Rattle.curve.specs.declared.Basis.the-variants.{None}
 use Rattle.curve.specs.Curve.{percentAt}
+use Rattle.curve.specs.Basis.{basisAt}
 use Rattle.curve.specs.Answers.{admissionOf, afterAdmission}
 use Rattle.published.specs.Tables.{depths}
 use Rattle.published.specs.Published.{ratesOf, percentsOf, isPublished}
@@ -36,15 +39,15 @@ credit v = Credit (record { 0 = v })
 abbrev pub size : ℕ → Wanted
 size target = Size (record { 0 = target })
 
--- crediting or sizing by a load, an impervious area, a V and the percent at each depth
-abbrev pub worked : Wanted → ℕ → ℕ → (ℕ → ℕ) → (ℕ → ℕ) → CreditAnswer
-worked (Credit v) load impervious volumeAt percents = creditBy load impervious volumeAt percents (v .0)
-worked (Size target) load impervious volumeAt percents = sizeBy load impervious volumeAt percents (target .0)
+-- crediting or sizing by a load, an impervious area, a V and the percent at each depth with its basis
+abbrev pub worked : Wanted → ℕ → ℕ → (ℕ → ℕ) → (ℕ → ℕ) → (ℕ → Basis) → CreditAnswer
+worked (Credit v) load impervious volumeAt percents bases = creditBy load impervious volumeAt percents bases (v .0)
+worked (Size target) load impervious volumeAt percents bases = sizeBy load impervious volumeAt percents bases (target .0)
 
 -- the same on a sheet of depths ds, rates rs and percents ps, after 5, 6 and 7
 unfoldable pub onSheet : Wanted → ℕ → ℕ → (ℕ → ℕ) → List ℕ → List ℕ → List ℕ → Mode → ℕ → CreditAnswer
 onSheet wanted load impervious volumeAt ds rs ps mode r =
-    afterAdmission BadSheet Refused (λ c. worked wanted load impervious volumeAt (percentAt ds ps c)) (admissionOf ds rs ps mode r)
+    afterAdmission BadSheet Refused (λ c. worked wanted load impervious volumeAt (percentAt ds ps c) (basisAt ds c)) (admissionOf ds rs ps mode r)
 
 -- the same for a list of sub-areas, with its own load, impervious area and V
 abbrev pub onParts : Wanted → Nutrient → List SubArea → List ℕ → List ℕ → List ℕ → Mode → ℕ → CreditAnswer
@@ -62,7 +65,7 @@ bySheet (published practice) wanted n parts mode r =
 unfoldable pub answerOf : Sheet → Wanted → Nutrient → Site → Mode → ℕ → CreditAnswer
 answerOf sheet wanted n s mode r = afterJudging Refused (λ total. bySheet sheet wanted n (partsOf s) mode r) (judged s)
 
--- The rules' number and values: zeros for a refusal, but for the list and place of 5.
+-- The rules' number and values: zeros for a refusal, with no basis, but for the list and place of 5.
 pub record Given : Type 0 where
   pub answer : ℕ
   pub list : ℕ
@@ -70,12 +73,13 @@ pub record Given : Type 0 where
   pub load : ℕ
   pub depth : ℕ
   pub percent : ℕ
+  pub basis : Basis
   pub volume : ℕ
   pub removed : ℕ
 
 abbrev pub refusedWith : ℕ → ℕ → ℕ → Given
 refusedWith number list place =
-    record { answer = number; list = list; place = place; load = 0; depth = 0; percent = 0; volume = 0; removed = 0 }
+    record { answer = number; list = list; place = place; load = 0; depth = 0; percent = 0; basis = None; volume = 0; removed = 0 }
 
 abbrev pub given : CreditAnswer → Given
 given (Granted f) =
@@ -86,6 +90,7 @@ given (Granted f) =
       load = f .load .0;
       depth = f .depth .0;
       percent = f .percent .0;
+      basis = f .basis;
       volume = f .volume .0;
       removed = f .removed .0;
     }

@@ -23,6 +23,7 @@ use Rattle.loads.specs.Loads.{loadOf}
 use Rattle.volume.specs.Areas.{areaAt, noAreas, areasOf, volumeFrom}
 use Rattle.volume.specs.Inner.{Six}
 use Rattle.curve.specs.declared.Mode.{Mode}
+use Rattle.curve.specs.declared.Basis.{Basis}
 use Rattle.published.specs.Tables.{depths}
 use Rattle.published.specs.Published.{ratesOf, percentsOf, isPublished}
 use Rattle.credit.specs.declared.CreditAnswer.{CreditAnswer}
@@ -43,10 +44,10 @@ abbrev pub depthIn : DepthAnswer → Depth
 depthIn (depth.Granted d) = d
 depthIn (depth.Refused why) = record { 0 = lowestDepth }
 
--- a sizing at a depth that was found, with its percent, or at any where the target is not reached
-unfoldable pub sizedAt : ℕ → ℕ → (ℕ → ℕ) → ℕ → ℕ → ℕ → Bool → CreditAnswer
-sizedAt load impervious volumeAt target depth percent reached =
-    inTurn Refused (Granted (figuresOf load depth percent (volumeAt depth)))
+-- a sizing at a depth that was found, with its percent and basis, or at any where the target is not reached
+unfoldable pub sizedAt : ℕ → ℕ → (ℕ → ℕ) → ℕ → ℕ → ℕ → Basis → Bool → CreditAnswer
+sizedAt load impervious volumeAt target depth percent basis reached =
+    inTurn Refused (Granted (figuresOf load depth percent basis (volumeAt depth)))
     (tried load impervious volumeAt (leb target mostPercent) ((reached, TargetUnreachable) ∷ []))
 
 -- the work on the published sheet of a practice: one that has none is refused 4

@@ -1,11 +1,12 @@
--- Rules, "Numbers to hold on to": the starred ones, all together as one list, each with all the numbers that its call gives back. Proved
--- in proofs/Numbers.antt.
+-- Rules, "Numbers to hold on to": the starred ones, all together as one list, each with all the numbers that its call gives back; and
+-- how credits are found. Proved in proofs/Numbers.antt.
 -- Assumes nothing.
 use Prim.Native.Nat.{ℕ}
 use mathlib.Core.List.{List, [], _∷_, _++_}
 use mathlib.Core.Path.{_≡_}
 use lib.ListN.{replicate}
 use Rattle.units.specs.declared.Nutrient.the-variants.{N}
+use Rattle.units.specs.Limits.{largest}
 use Rattle.site.specs.declared.Site.{Site}
 use Rattle.site.specs.Parts.{blank}
 use Rattle.volume.specs.Examples.{lot, yard}
@@ -13,6 +14,8 @@ use Rattle.volume.specs.Answers.{volumeAnswer, given as volumeGiven}
 use Rattle.sheet.specs.Examples.{depthsT, ratesT, percentsT}
 use Rattle.curve.specs.declared.Mode.{Mode}
 use Rattle.curve.specs.declared.Mode.the-variants.{Step, Mix}
+use Rattle.curve.specs.declared.Basis.{Basis}
+use Rattle.curve.specs.declared.Basis.the-variants.{Printed, Between, Start, Held}
 use Rattle.curve.specs.Examples.{onT, targetOnT}
 use Rattle.credit.specs.Answers.{Sheet, lent, Given}
 use Rattle.credit.specs.Promises.{Credited, Sized}
@@ -29,11 +32,11 @@ yardSite = record { parts = yard ++ replicate 29 blank; count = 3 }
 
 -- of a percent on T: number, percent, list and place
 abbrev pub percentOnT : Mode → ℕ → ℕ → List ℕ
-percentOnT mode r d = let g = onT mode r d in g .0 ∷ g .1 ∷ g .2 ∷ g .3 ∷ []
+percentOnT mode r d = let g = onT mode r d in g .0 ∷ g .1 ∷ g .3 ∷ g .4 ∷ []
 
 -- of a target on T, step, rate 50: number, depth, percent, list and place
 abbrev pub depthOnT : ℕ → List ℕ
-depthOnT target = let g = targetOnT target in g .0 ∷ g .1 ∷ g .2 ∷ g .3 ∷ g .4 ∷ []
+depthOnT target = let g = targetOnT target in g .0 ∷ g .1 ∷ g .2 ∷ g .4 ∷ g .5 ∷ []
 
 -- of V at a depth: number and volume
 abbrev pub volumeAt : Site → ℕ → List ℕ
@@ -74,3 +77,20 @@ Starred =
     ∷ (0 ∷ 0 ∷ 0 ∷ 666_000 ∷ 71 ∷ 55_500 ∷ 1_100_343_750 ∷ 369_630 ∷ [])
     ∷ (0 ∷ 0 ∷ 0 ∷ 666_000 ∷ 70 ∷ 55_000 ∷ 1_100_343_749 ∷ 366_300 ∷ [])
     ∷ []
+
+-- of a credit or a size: depth, percent and basis
+abbrev pub foundBy : Given → ℕ × ℕ × Basis
+foundBy g = (g .depth, g .percent, g .basis)
+
+-- on T, step, rate 50: impervious 400, pervious C 200 and B 150, sized for 0, 20000, 20001, 55001 and 70000, and credited with the
+-- largest volume
+abbrev pub HowFound : Type 0
+HowFound =
+    foundBy (Sized sheetT N yardSite Step 50 0)
+    ∷ foundBy (Sized sheetT N yardSite Step 50 20_000)
+    ∷ foundBy (Sized sheetT N yardSite Step 50 20_001)
+    ∷ foundBy (Sized sheetT N yardSite Step 50 55_001)
+    ∷ foundBy (Sized sheetT N yardSite Step 50 70_000)
+    ∷ foundBy (Credited sheetT N yardSite Step 50 largest)
+    ∷ []
+    ≡ (0, 0, Start) ∷ (20, 20_000, Printed) ∷ (21, 20_750, Between) ∷ (71, 55_500, Between) ∷ (100, 70_000, Printed) ∷ (200, 70_000, Held) ∷ []

@@ -22,7 +22,9 @@ use Rattle.volume.specs.Volume.{volumeOf, depthOf}
 use Rattle.sheet.specs.Rules.{Rules}
 use Rattle.sheet.specs.Promises.{UnfitAt}
 use Rattle.curve.specs.declared.Mode.{Mode}
+use Rattle.curve.specs.declared.Basis.{Basis}
 use Rattle.curve.specs.Curve.{percentOf}
+use Rattle.curve.specs.Basis.{basisOf}
 use Rattle.curve.specs.Answers.{fastestTaken}
 use Rattle.curve.specs.Promises.{Usable, FasterIsNoLess, IsLeast}
 use Rattle.published.specs.Tables.{depths}
@@ -53,6 +55,10 @@ percentsIn (published practice) n = percentsOf practice n
 -- the percent of a sheet at a site rate and a depth
 abbrev pub percentOn : Sheet → Nutrient → Mode → ℕ → ℕ → ℕ
 percentOn sheet n mode r d = percentOf (depthsIn sheet) (ratesIn sheet n) (percentsIn sheet n) mode r d
+
+-- and the basis of that percent
+abbrev pub basisOn : Sheet → Nutrient → Mode → ℕ → ℕ → Basis
+basisOn sheet n mode r d = basisOf (depthsIn sheet) (ratesIn sheet n) mode r d
 
 -- the practice has a published sheet; a lent sheet is always there
 abbrev pub isThere : Sheet → Nutrient → Bool
@@ -122,6 +128,7 @@ CreditIsByTheTables =
     → (Credited sheet n s mode r v .load ≡ loadOf (rates.exportRates n) (partsOf s))
     × (Credited sheet n s mode r v .depth ≡ depthOf (partsOf s) v)
     × (Credited sheet n s mode r v .percent ≡ percentOn sheet n mode r (depthOf (partsOf s) v))
+    × (Credited sheet n s mode r v .basis ≡ basisOn sheet n mode r (depthOf (partsOf s) v))
     × (Credited sheet n s mode r v .volume ≡ v)
     × (Credited sheet n s mode r v .removed ≡ removedOf (Credited sheet n s mode r v .load) (Credited sheet n s mode r v .percent))
 
@@ -133,6 +140,7 @@ SizeIsByTheTables =
     → (Sized sheet n s mode r target .load ≡ loadOf (rates.exportRates n) (partsOf s))
     × IsLeast (percentOn sheet n mode r) target (Sized sheet n s mode r target .depth)
     × (Sized sheet n s mode r target .percent ≡ percentOn sheet n mode r (Sized sheet n s mode r target .depth))
+    × (Sized sheet n s mode r target .basis ≡ basisOn sheet n mode r (Sized sheet n s mode r target .depth))
     × (Sized sheet n s mode r target .volume ≡ volumeOf (partsOf s) (Sized sheet n s mode r target .depth))
     × (Sized sheet n s mode r target .removed ≡ removedOf (Sized sheet n s mode r target .load) (Sized sheet n s mode r target .percent))
 

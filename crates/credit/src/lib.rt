@@ -10,6 +10,7 @@ ghost use Rattle.published.specs.Inner.{listDepths, stretch, Standing};
 ghost use Rattle.loads.specs.Rates.{exportRates};
 ghost use Rattle.credit.specs.Answers.{Sheet, onSheet, answerOf};
 ghost use Rattle.credit.specs.Inner.{Work, depthIn, sizedAt, onPractice, unsurveyed, surveyed};
+use curve::Basis;
 use curve::Mode;
 use curve::PercentAnswer;
 use curve::Reached;
@@ -35,11 +36,13 @@ pub enum Wanted {
     Size(Percent),
 }
 
-// What a granted answer gives: the site's load, the grid depth, its percent, the volume and the removed load.
+// What a granted answer gives: the site's load, the grid depth, its percent and the basis of that, the volume and the removed
+// load.
 pub struct Figures {
     pub load: Load,
     pub depth: Depth,
     pub percent: Percent,
+    pub basis: Basis,
     pub volume: Volume,
     pub removed: Load,
 }
@@ -52,9 +55,9 @@ pub enum CreditAnswer {
 }
 
 // The figures, with the removed load worked out from the percent.
-fn figures_of(load: Load, depth: Depth, percent: Percent, volume: Volume) -> Figures
+fn figures_of(load: Load, depth: Depth, percent: Percent, basis: Basis, volume: Volume) -> Figures
     requires { ⌜ (load .0 ≤ largest) × (percent .0 ≤ mostPercent) ⌝ }
-    ensures { λ r. ⌜ r ≡ figuresOf (load .0) (depth .0) (percent .0) (volume .0) ⌝ }
+    ensures { λ r. ⌜ r ≡ figuresOf (load .0) (depth .0) (percent .0) basis (volume .0) ⌝ }
 {
     let found = loads::removed(load, percent);
     match found {
@@ -62,6 +65,7 @@ fn figures_of(load: Load, depth: Depth, percent: Percent, volume: Volume) -> Fig
             load,
             depth,
             percent,
+            basis,
             volume,
             removed,
         },
@@ -69,6 +73,7 @@ fn figures_of(load: Load, depth: Depth, percent: Percent, volume: Volume) -> Fig
             load,
             depth,
             percent,
+            basis,
             volume,
             removed: Load(0),
         },
@@ -81,11 +86,12 @@ fn credited(
     load: Load,
     reached: DepthAnswer,
     percent: Percent,
+    basis: Basis,
     volume: Volume,
 ) -> CreditAnswer
     requires { ⌜ Work (areas .of) (load .0) (percent .0) ⌝ }
     requires { ⌜ reached ≡ depthOn (areas .of) volume ⌝ }
-    ensures { λ r. ⌜ r ≡ creditBy (load .0) (areaAt (areas .of) 0) (volumeFrom (areas .of)) (λ d. percent .0) (volume .0) ⌝ }
+    ensures { λ r. ⌜ r ≡ creditBy (load .0) (areaAt (areas .of) 0) (volumeFrom (areas .of)) (λ d. percent .0) (λ d. basis) (volume .0) ⌝ }
 {
     let of = areas.of;
     let impervious = of[0];
@@ -97,6 +103,7 @@ fn credited(
             load,
             depth,
             percent,
+            basis,
             volume,
         )),
         DepthAnswer::Refused(why) => CreditAnswer::Refused(why),
@@ -110,11 +117,12 @@ fn sized(
     target: Percent,
     depth: Depth,
     percent: Percent,
+    basis: Basis,
     reached: bool,
 ) -> CreditAnswer
     requires { ⌜ Work (areas .of) (load .0) (percent .0) ⌝ }
     requires { ⌜ depth .0 ≤ highestDepth ⌝ }
-    ensures { λ r. ⌜ r ≡ sizedAt (load .0) (areaAt (areas .of) 0) (volumeFrom (areas .of)) (target .0) (depth .0) (percent .0) reached ⌝ }
+    ensures { λ r. ⌜ r ≡ sizedAt (load .0) (areaAt (areas .of) 0) (volumeFrom (areas .of)) (target .0) (depth .0) (percent .0) basis reached ⌝ }
 {
     let of = areas.of;
     let impervious = of[0];
@@ -128,7 +136,7 @@ fn sized(
     match found {
         VolumeAnswer::Granted(volume) => {
             if reached {
-                return CreditAnswer::Granted(figures_of(load, depth, percent, volume));
+                return CreditAnswer::Granted(figures_of(load, depth, percent, basis, volume));
             }
             CreditAnswer::Refused(Refusal::TargetUnreachable)
         }
@@ -139,7 +147,7 @@ fn sized(
 // A target that no depth reaches, or that is above 100 percent: what is tried in turn says which.
 fn missed(areas: Areas, load: Load, target: Percent) -> CreditAnswer
     requires { ⌜ Work (areas .of) (load .0) 0 ⌝ }
-    ensures { λ r. ⌜ r ≡ sizedAt (load .0) (areaAt (areas .of) 0) (volumeFrom (areas .of)) (target .0) highestDepth 0 false ⌝ }
+    ensures { λ r. ⌜ r ≡ sizedAt (load .0) (areaAt (areas .of) 0) (volumeFrom (areas .of)) (target .0) highestDepth 0 Basis.None false ⌝ }
 {
     sized(
         areas,
@@ -147,6 +155,7 @@ fn missed(areas: Areas, load: Load, target: Percent) -> CreditAnswer
         target,
         Depth(Depth::HIGHEST),
         Percent(0),
+        Basis::None,
         false,
     )
 }
@@ -179,7 +188,14 @@ fn credit_by(
     let depth = depth_in(reached);
     let found = curve::percent(depths, rates, percents, mode, rate, depth);
     match found {
-        PercentAnswer::Granted(percent) => credited(areas, load, reached, percent, volume),
+        PercentAnswer::Granted(percent, basis) => credited(
+            areas,
+            load,
+            reached,
+            percent,
+            basis,
+            volume,
+        ),
         PercentAnswer::BadSheet { list, place } => CreditAnswer::BadSheet { list, place },
         PercentAnswer::Refused(why) => CreditAnswer::Refused(why),
     }
@@ -201,7 +217,15 @@ fn size_by(
 {
     let found = curve::reach(depths, rates, percents, mode, rate, target);
     match found {
-        Reached::Found(depth, percent) => sized(areas, load, target, depth, percent, true),
+        Reached::Found(depth, percent, basis) => sized(
+            areas,
+            load,
+            target,
+            depth,
+            percent,
+            basis,
+            true,
+        ),
         Reached::TooHigh => missed(areas, load, target),
         Reached::Short => missed(areas, load, target),
         Reached::BadSheet { list, place } => CreditAnswer::BadSheet { list, place },

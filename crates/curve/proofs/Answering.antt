@@ -23,11 +23,13 @@ use Rattle.sheet.specs.Rules.{Rules}
 use Rattle.sheet.proofs.Rules.{fine-rules}
 use Rattle.curve.specs.declared.Mode.{Mode}
 use Rattle.curve.specs.declared.Curves.{Curves}
+use Rattle.curve.specs.declared.Basis.{Basis}
 use Rattle.curve.specs.declared.Admission.{Admission}
 use Rattle.curve.specs.declared.Admission.the-variants as admission
 use Rattle.curve.specs.declared.PercentAnswer.the-variants as percent
 use Rattle.curve.specs.declared.Reached.the-variants as reach
 use Rattle.curve.specs.Curve.{curvesOf, percentAt, depthReaching}
+use Rattle.curve.specs.Basis.{basisAt}
 use Rattle.curve.specs.Inner.{Rated, Ready}
 use Rattle.curve.specs.Answers.{fastestTaken, rated, judgedFirst, admissionOf, percentAnswer, reachOf}
 use Rattle.curve.proofs.Choices.{neighbours}
@@ -110,10 +112,14 @@ module _ (ds rs ps : List ℕ) (mode : Mode) (r : ℕ) {a : Admission} (told : a
   admitted-ready e = judged-ready (verdictOf ds rs ps) mode r refl (sym told ∙ e)
 
   -- 5, 6 and 7 are passed on by a call for a percent, and 9 is tried.
-  pub percent-granted : (d : ℕ) {c : Curves} {p : Percent} → a ≡ admission.Admitted c → d ≤ highestDepth → p .0 ≡ percentAt ds ps c d
-      → percent.Granted p ≡ percentAnswer ds rs ps mode r d
+  pub percent-granted : (d : ℕ) {c : Curves} {p : Percent} {b : Basis} → a ≡ admission.Admitted c → d ≤ highestDepth → p .0 ≡ percentAt ds ps c d
+      → b ≡ basisAt ds c d → percent.Granted p b ≡ percentAnswer ds rs ps mode r d
   unfolding percentAnswer
-  percent-granted d e h g = rw (sym told ∙ e, sym g) (simp (le-leb d highestDepth h))
+  percent-granted d e h g f = rw (sym told ∙ e, sym g, f) (simp (le-leb d highestDepth h))
+
+  -- An admitted sheet has a depth.
+  pub admitted-depths : {c : Curves} → a ≡ admission.Admitted c → 1 ≤ length ds
+  admitted-depths e = admitted-ready e .rules .some-depths
 
   pub percent-deep : (d : ℕ) {c : Curves} → a ≡ admission.Admitted c → highestDepth < d → percent.Refused AmountOutOfRange ≡ percentAnswer ds rs ps mode r d
   unfolding percentAnswer
@@ -163,12 +169,12 @@ module _ {ds rs ps : List ℕ} {c : Curves} (s : Ready ds rs ps c) (t : ℕ) whe
 
 module _ (ds rs ps : List ℕ) (mode : Mode) (r t : ℕ) {a : Admission} {c : Curves} (told : a ≡ admissionOf ds rs ps mode r)
     (e : a ≡ admission.Admitted c) (l : t ≤ mostPercent) {d : ℕ} (found : d ≡ depthReaching (percentAt ds ps c) t) where
-  pub reach-found : {p : ℕ} → d ≤ highestDepth → p ≡ percentAt ds ps c d
-      → reach.Found (record { 0 = d }) (record { 0 = p }) ≡ reachOf ds rs ps mode r t
+  pub reach-found : {p : ℕ} {b : Basis} → d ≤ highestDepth → p ≡ percentAt ds ps c d → b ≡ basisAt ds c d
+      → reach.Found (record { 0 = d }) (record { 0 = p }) b ≡ reachOf ds rs ps mode r t
   unfolding reachOf
-  reach-found h f =
+  reach-found h f g =
       rw (sym told ∙ e)
-      (rw (f, found)
+      (rw (f, g, found)
       (simp (le-leb t mostPercent l, le-leb t (percentAt ds ps c highestDepth) (least-reached (admitted-ready ds rs ps mode r told e) t (rw found at h)))))
 
   pub reach-short : highestDepth < d → reach.Short ≡ reachOf ds rs ps mode r t

@@ -27,6 +27,7 @@ use Rattle.curve.specs.declared.Admission.the-variants as admission
 use Rattle.curve.specs.declared.PercentAnswer.the-variants as percent
 use Rattle.curve.specs.declared.Reached.the-variants as reach
 use Rattle.curve.specs.Curve.{curvesOf, percentAt, percentOf, depthReaching}
+use Rattle.curve.specs.Basis.{basisAt}
 use Rattle.curve.specs.Answers.{fastestTaken, rated, judgedFirst, admissionOf, afterAdmission, percentAnswer, leastFound, reachOf, given, reachGiven}
 use Rattle.curve.specs.Promises.{Usable, PercentsGiven, PercentGrantedExactly, DepthsGiven, ReachGrantedExactly}
 use Rattle.curve.proofs.Answering.{chosen}
@@ -67,7 +68,7 @@ percents-given ds rs ps mode r d g =
 granted-usable : (a : Admission) (ds rs ps : List ℕ) (mode : Mode) (r d : ℕ) → admissionOf ds rs ps mode r ≡ a
     → given
     (afterAdmission percent.BadSheet percent.Refused
-    (λ c. inTurn percent.Refused (percent.Granted (record { 0 = percentAt ds ps c d })) ((leb d highestDepth, AmountOutOfRange) ∷ [])) a) .0
+    (λ c. inTurn percent.Refused (percent.Granted (record { 0 = percentAt ds ps c d }) (basisAt ds c d)) ((leb d highestDepth, AmountOutOfRange) ∷ [])) a) .0
     ≡ granted
     → Usable ds rs ps r × (d ≤ highestDepth)
 granted-usable (admission.Admitted c) ds rs ps mode r d t e =
@@ -82,7 +83,7 @@ pub percent-granted-exactly : PercentGrantedExactly
 unfolding percentAnswer
 percent-granted-exactly ds rs ps mode r d = (
   λ e. granted-usable (admissionOf ds rs ps mode r) ds rs ps mode r d refl e,
-  λ u. ap (λ (t : ℕ × ℕ × ℕ × ℕ). t .0) (percents-given ds rs ps mode r d (u .0) .on-grid (u .1)),
+  λ u. ap (λ (t : ℕ × ℕ × ℕ × ℕ × ℕ). t .0) (percents-given ds rs ps mode r d (u .0) .on-grid (u .1)),
 )
 
 -- For a target the least depth that reaches it is, with its percent, or why there is none.
@@ -105,7 +106,7 @@ depths-given ds rs ps mode r t g =
 reach-usable : (a : Admission) (ds rs ps : List ℕ) (mode : Mode) (r t : ℕ) → admissionOf ds rs ps mode r ≡ a
     → reachGiven
     (afterAdmission reach.BadSheet reach.Refused
-    (λ c. inTurn (λ why. why) (leastFound (percentAt ds ps c) t)
+    (λ c. inTurn (λ why. why) (leastFound (percentAt ds ps c) (basisAt ds c) t)
     ((leb t mostPercent, reach.TooHigh) ∷ (leb t (percentAt ds ps c highestDepth), reach.Short) ∷ [])) a) .0
     ≡ granted
     → Usable ds rs ps r × (t ≤ percentOf ds rs ps mode r highestDepth)
@@ -126,5 +127,5 @@ pub reach-granted-exactly : ReachGrantedExactly
 unfolding reachOf
 reach-granted-exactly ds rs ps mode r t = (
   λ e. reach-usable (admissionOf ds rs ps mode r) ds rs ps mode r t refl e,
-  λ u. ap (λ (g : ℕ × ℕ × ℕ × ℕ × ℕ). g .0) (depths-given ds rs ps mode r t (u .0) .found (u .1) .are),
+  λ u. ap (λ (g : ℕ × ℕ × ℕ × ℕ × ℕ × ℕ). g .0) (depths-given ds rs ps mode r t (u .0) .found (u .1) .are),
 )

@@ -1,5 +1,6 @@
 pub mod Fits
 pub mod Segments
+pub mod Bases
 pub mod Heights
 pub mod Choices
 pub mod Parts
@@ -11,3 +12,4 @@ pub mod Sentences
 pub mod Granting
 pub mod Refusing
 pub mod Searching
+pub mod Found

@@ -13,10 +13,12 @@ use Rattle.units.specs.declared.Percent.{Percent}
 use Rattle.units.specs.Limits.{mostPercent, highestDepth, gridDepths}
 use Rattle.curve.specs.declared.Mode.{Mode}
 use Rattle.curve.specs.declared.Curves.{Curves}
+use Rattle.curve.specs.declared.Basis.{Basis}
 use Rattle.curve.specs.declared.Admission.{Admission}
 use Rattle.curve.specs.declared.Admission.the-variants as admission
 use Rattle.curve.specs.declared.Reached.the-variants as reach
 use Rattle.curve.specs.Curve.{percentAt}
+use Rattle.curve.specs.Basis.{basisAt}
 use Rattle.curve.specs.Inner.{Ready, Reaching}
 use Rattle.curve.specs.Answers.{admissionOf, reachOf}
 use Rattle.curve.proofs.Answering.{reaches-once, reach-found, reach-short}
@@ -70,8 +72,8 @@ module _ (ds ps : List ℕ) (c : Curves) (t trials low high p : ℕ) (s : Search
 -- What the search found is the answer of a call.
 module _ (ds rs ps : List ℕ) (mode : Mode) (r t : ℕ) {a : Admission} {c : Curves} (told : a ≡ admissionOf ds rs ps mode r)
     (e : a ≡ admission.Admitted c) (l : t ≤ mostPercent) (d : Depth) (p : Percent) (found : Reaching ds ps c t (d .0) (p .0)) where
-  pub found-reached : d .0 ≤ highestDepth → reach.Found d p ≡ reachOf ds rs ps mode r t
-  found-reached h = reach-found ds rs ps mode r t told e l (found .least) h (found .there h)
+  pub found-reached : {b : Basis} → d .0 ≤ highestDepth → b ≡ basisAt ds c (d .0) → reach.Found d p b ≡ reachOf ds rs ps mode r t
+  found-reached h f = reach-found ds rs ps mode r t told e l (found .least) h (found .there h) f
 
   pub found-short : highestDepth < d .0 → reach.Short ≡ reachOf ds rs ps mode r t
   found-short h = reach-short ds rs ps mode r t told e l (found .least) h

@@ -40,18 +40,18 @@ turned : (a b c : ℕ) → a * b * c ≡ c * b * a
 turned a b c = simp (mul-assoc, mul-comm, mul-left-comm)
 
 module _ {ds rs ps : List ℕ} (s : Rules ds rs ps) where
-  -- No depth is above the last.
-  up-to-last : (k : ℕ) → k < length ds → getD ds k 0 ≤ getD ds (length ds - 1) 0
-  up-to-last k h =
-      ⊎-elim (λ (e : k ≡ length ds - 1). rw e (le-refl _))
-      (λ (l : k < length ds - 1).
-      let p = one-rises ds (length ds) (s .depths) k (length ds - 1) l (omega arith) (le-refl _) in
-      let q = s .depths (length ds - 1) (omega arith) .rises in
+  -- The depths rise, so that none is above the last.
+  pub depths-rise : (i j : ℕ) → i ≤ j → j < length ds → getD ds i 0 ≤ getD ds j 0
+  depths-rise i j h b =
+      ⊎-elim (λ (e : i ≡ j). rw e (le-refl _))
+      (λ (l : i < j).
+      let p = one-rises ds (length ds) (s .depths) i j l b (le-refl _) in
+      let q = s .depths j b .rises in
       omega arith)
-      (eq-or-lt-of-le (below h))
-    where
-      below : k < length ds → k ≤ length ds - 1
-      below h = omega arith
+      (eq-or-lt-of-le h)
+
+  pub up-to-last : (k : ℕ) → k < length ds → getD ds k 0 ≤ getD ds (length ds - 1) 0
+  up-to-last k h = depths-rise k (length ds - 1) (omega arith) (omega arith)
 
   -- Where two segments meet, the one ends and the other starts at the printed percent.
   meet : (j k x : ℕ) → x ≡ getD ds k 0 → suc k < length ds → height ds ps j k x * width ds (suc k) ≡ height ds ps j (suc k) x * width ds k
@@ -98,7 +98,7 @@ module _ {ds rs ps : List ℕ} (s : Rules ds rs ps) where
         (eq-or-lt-of-le k-below))
 
   -- A printed depth lies at the end of its own segment.
-  printed-segment : (k : ℕ) → k < length ds → k ≡ segment ds (getD ds k 0)
+  pub printed-segment : (k : ℕ) → k < length ds → k ≡ segment ds (getD ds k 0)
   printed-segment k h =
       first-is (λ i. ltb (getD ds i 0) (getD ds k 0)) (length ds) k (le-of-lt h)
       (λ i l.
@@ -120,7 +120,7 @@ module _ {ds rs ps : List ℕ} (s : Rules ds rs ps) where
       plain w p = let e = mul-comm w p in omega arith
 
   -- A printed rate is its own fastest.
-  rates-rise : (i j : ℕ) → i ≤ j → j < length rs → getD rs i 0 ≤ getD rs j 0
+  pub rates-rise : (i j : ℕ) → i ≤ j → j < length rs → getD rs i 0 ≤ getD rs j 0
   rates-rise i j a b =
       rises (λ k. getD rs k 0) (length rs - 1) (λ k l. rw (sym (add-one k)) (le-of-lt (rates-apart s k (omega arith)))) i j a (omega arith)
 
@@ -164,7 +164,7 @@ module _ {ds rs ps : List ℕ} (s : Rules ds rs ps) where
       (lt-or-le (fastest rs r + 1) (length rs))
 
   -- At a printed rate both modes take the curve of that rate.
-  printed-rate : (mode : Mode) (j d : ℕ) → j < length rs → percentAt ds ps (curvesOf rs mode (getD rs j 0)) d ≡ percentAt ds ps (One j) d
+  pub printed-rate : (mode : Mode) (j d : ℕ) → j < length rs → percentAt ds ps (curvesOf rs mode (getD rs j 0)) d ≡ percentAt ds ps (One j) d
   unfolding curvesOf exactIn
   printed-rate Step j d h = rw (printed-fastest j h)
   printed-rate Mix j d h =
@@ -186,7 +186,7 @@ module _ {ds rs ps : List ℕ} (s : Rules ds rs ps) where
       sorted : (f h w : ℕ) → f * h * w ≡ h * (w * f)
       sorted f h w = simp (mul-assoc, mul-comm, mul-left-comm)
 
-  printed-depth : (j k : ℕ) → j < length rs → k < length ds → percentAt ds ps (One j) (getD ds k 0) ≡ getD ps (j * length ds + k) 0
+  pub printed-depth : (j k : ℕ) → j < length rs → k < length ds → percentAt ds ps (One j) (getD ds k 0) ≡ getD ps (j * length ds + k) 0
   printed-depth j k i h =
       let n : Ready ds rs ps (One j) = record { rules = s; curves = i } in
       floor-same (exactAt ds ps (One j) (getD ds k 0) .over) (exactAt ds ps (One j) (getD ds k 0) .under) (getD ps (j * length ds + k) 0) 1
@@ -212,7 +212,7 @@ mixed ds ps j d slow fast r =
     scaled p q h k w v = rw (sym (mul-assoc p h w), sym (mul-assoc q k w), sym (add-mul (p * h) (q * k) w)) (sorted (p * h + q * k) w v)
 
 -- Beyond the last depth a curve stays as it is there.
-exact-beyond : (ds ps : List ℕ) (c : Curves) (d : ℕ) → getD ds (length ds - 1) 0 ≤ d → exactAt ds ps c d ≡ exactAt ds ps c (getD ds (length ds - 1) 0)
+pub exact-beyond : (ds ps : List ℕ) (c : Curves) (d : ℕ) → getD ds (length ds - 1) 0 ≤ d → exactAt ds ps c d ≡ exactAt ds ps c (getD ds (length ds - 1) 0)
 exact-beyond ds ps c d h = rw (min-eq-right h, min-eq-left (le-refl (getD ds (length ds - 1) 0)))
 
 -- An exact percent that equals a fraction is rounded as it is.

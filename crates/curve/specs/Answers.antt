@@ -15,6 +15,8 @@ use Rattle.sheet.specs.declared.Verdict.the-variants.{Fine, Unfit}
 use Rattle.sheet.specs.Sheet.{withoutRates, verdictOf}
 use Rattle.curve.specs.declared.Mode.{Mode}
 use Rattle.curve.specs.declared.Curves.{Curves}
+use Rattle.curve.specs.declared.Basis.{Basis}
+use Rattle.curve.specs.declared.Basis.the-variants.{None}
 use Rattle.curve.specs.declared.Admission.{Admission}
 use Rattle.curve.specs.declared.Admission.the-variants as admission
 use Rattle.curve.specs.declared.PercentAnswer.{PercentAnswer}
@@ -22,6 +24,7 @@ use Rattle.curve.specs.declared.PercentAnswer.the-variants as percent
 use Rattle.curve.specs.declared.Reached.{Reached}
 use Rattle.curve.specs.declared.Reached.the-variants as reach
 use Rattle.curve.specs.Curve.{curvesOf, percentAt, depthReaching}
+use Rattle.curve.specs.Basis.{basisAt, basisNumber}
 
 -- the fastest site rate that a sheet takes: 0 where it is without rates
 unfoldable pub fastestTaken : List ℕ → ℕ
@@ -48,36 +51,37 @@ module _ {A : Type 0} where
   afterAdmission bad refused onward (admission.BadSheet list place) = bad list place
   afterAdmission bad refused onward (admission.Refused why) = refused why
 
--- the percent of a sheet at a rate and a depth, refused 9 at a depth above 200
+-- the percent of a sheet at a rate and a depth, with its basis, refused 9 at a depth above 200
 unfoldable pub percentAnswer : List ℕ → List ℕ → List ℕ → Mode → ℕ → ℕ → PercentAnswer
 percentAnswer ds rs ps mode r d =
     afterAdmission percent.BadSheet percent.Refused
-    (λ c. inTurn percent.Refused (percent.Granted (record { 0 = percentAt ds ps c d })) ((leb d highestDepth, AmountOutOfRange) ∷ []))
+    (λ c. inTurn percent.Refused (percent.Granted (record { 0 = percentAt ds ps c d }) (basisAt ds c d)) ((leb d highestDepth, AmountOutOfRange) ∷ []))
     (admissionOf ds rs ps mode r)
 
--- the least grid depth that reaches a target, with its percent
-abbrev pub leastFound : (ℕ → ℕ) → ℕ → Reached
-leastFound percents target =
-    reach.Found (record { 0 = depthReaching percents target }) (record { 0 = percents (depthReaching percents target) })
+-- the least grid depth that reaches a target, with its percent and the basis of that
+abbrev pub leastFound : (ℕ → ℕ) → (ℕ → Basis) → ℕ → Reached
+leastFound percents bases target =
+    let d = depthReaching percents target in
+    reach.Found (record { 0 = d }) (record { 0 = percents d }) (bases d)
 
--- the least grid depth of a target, with its percent: 9 above 100 percent, then 10 above the percent at depth 200
+-- the least grid depth of a target, with its percent and the basis of that: 9 above 100 percent, then 10 above the percent at depth 200
 unfoldable pub reachOf : List ℕ → List ℕ → List ℕ → Mode → ℕ → ℕ → Reached
 reachOf ds rs ps mode r target =
     afterAdmission reach.BadSheet reach.Refused
-    (λ c. inTurn (λ why. why) (leastFound (percentAt ds ps c) target)
+    (λ c. inTurn (λ why. why) (leastFound (percentAt ds ps c) (basisAt ds c) target)
     ((leb target mostPercent, reach.TooHigh) ∷ (leb target (percentAt ds ps c highestDepth), reach.Short) ∷ []))
     (admissionOf ds rs ps mode r)
 
--- the rules' number, percent, list and place
-abbrev pub given : PercentAnswer → ℕ × ℕ × ℕ × ℕ
-given (percent.Granted p) = (granted, p .0, 0, 0)
-given (percent.BadSheet list place) = (numberOf UnfitSheet, 0, list, place)
-given (percent.Refused r) = (numberOf r, 0, 0, 0)
+-- the rules' number, percent, the basis by its number, list and place
+abbrev pub given : PercentAnswer → ℕ × ℕ × ℕ × ℕ × ℕ
+given (percent.Granted p b) = (granted, p .0, basisNumber b, 0, 0)
+given (percent.BadSheet list place) = (numberOf UnfitSheet, 0, basisNumber None, list, place)
+given (percent.Refused r) = (numberOf r, 0, basisNumber None, 0, 0)
 
--- the rules' number, depth, percent, list and place
-abbrev pub reachGiven : Reached → ℕ × ℕ × ℕ × ℕ × ℕ
-reachGiven (reach.Found d p) = (granted, d .0, p .0, 0, 0)
-reachGiven reach.TooHigh = (numberOf AmountOutOfRange, 0, 0, 0, 0)
-reachGiven reach.Short = (numberOf TargetUnreachable, 0, 0, 0, 0)
-reachGiven (reach.BadSheet list place) = (numberOf UnfitSheet, 0, 0, list, place)
-reachGiven (reach.Refused r) = (numberOf r, 0, 0, 0, 0)
+-- the rules' number, depth, percent, the basis by its number, list and place
+abbrev pub reachGiven : Reached → ℕ × ℕ × ℕ × ℕ × ℕ × ℕ
+reachGiven (reach.Found d p b) = (granted, d .0, p .0, basisNumber b, 0, 0)
+reachGiven reach.TooHigh = (numberOf AmountOutOfRange, 0, 0, basisNumber None, 0, 0)
+reachGiven reach.Short = (numberOf TargetUnreachable, 0, 0, basisNumber None, 0, 0)
+reachGiven (reach.BadSheet list place) = (numberOf UnfitSheet, 0, 0, basisNumber None, list, place)
+reachGiven (reach.Refused r) = (numberOf r, 0, 0, basisNumber None, 0, 0)

@@ -1,4 +1,5 @@
 pub mod Curve
+pub mod Basis
 pub mod Answers
 pub mod Promises
 pub mod Examples

@@ -1,5 +1,5 @@
--- Rules, "Curve sheets": what is promised of the percents of every accepted sheet, in both modes, at every site rate that is granted
--- and at every depth; and what is given back where the sheet or the rate is refused.
+-- Rules, "Curve sheets" and "How a percent was found": what is promised of the percents of every accepted sheet and of their bases, in
+-- both modes, at every site rate that is granted and at every depth; and what is given back where the sheet or the rate is refused.
 -- Assumes nothing.
 use Prim.Native.Nat.{ℕ, _+_, _-_, _*_, _/_, _≤_, _<_}
 use mathlib.Core.List.{List}
@@ -15,7 +15,10 @@ use Rattle.sheet.specs.Promises.{UnfitAt}
 use Rattle.curve.specs.declared.Mode.{Mode}
 use Rattle.curve.specs.declared.Mode.the-variants.{Step, Mix}
 use Rattle.curve.specs.declared.Fraction.{Fraction}
+use Rattle.curve.specs.declared.Basis.{Basis}
+use Rattle.curve.specs.declared.Basis.the-variants.{None, Printed, Start, Held}
 use Rattle.curve.specs.Curve.{fastest, exactOf, percentOf, depthReaching}
+use Rattle.curve.specs.Basis.{basisOf, basisNumber}
 use Rattle.curve.specs.Answers.{fastestTaken, percentAnswer, reachOf, given, reachGiven}
 
 -- a sheet and a site rate that are given neither 5, 6 nor 7: the sheet keeps its rules, and the rate is within 10,000 (0 on a sheet without
@@ -129,10 +132,53 @@ FindsTheLeast =
     (ds rs ps : List ℕ) (mode : Mode) (r target : ℕ) → Usable ds rs ps r → target ≤ percentOf ds rs ps mode r highestDepth
     → IsLeast (percentOf ds rs ps mode r) target (depthReaching (percentOf ds rs ps mode r) target)
 
--- What is given back for a usable sheet and rate: the percent at a depth of the grid, and 9 above it;
+-- The basis says start exactly below the first depth,
+abbrev pub StartExactly : Type 0
+StartExactly =
+    (ds rs ps : List ℕ) (mode : Mode) (r d : ℕ) → Usable ds rs ps r → (basisOf ds rs mode r d ≡ Start) ↔ (d < getD ds 0 0)
+
+-- and held exactly beyond the last.
+abbrev pub HeldExactly : Type 0
+HeldExactly =
+    (ds rs ps : List ℕ) (mode : Mode) (r d : ℕ) → Usable ds rs ps r → (basisOf ds rs mode r d ≡ Held) ↔ (getD ds (length ds - 1) 0 < d)
+
+-- a depth of the sheet
+pub record OfSheet (ds : List ℕ) (d : ℕ) : Type 0 where
+  pub place : ℕ
+  pub within : place < length ds
+  pub there : d ≡ getD ds place 0
+
+-- mixing means a site rate strictly between two neighbouring rates of the sheet in mode mix
+pub record Mixing (rs : List ℕ) (mode : Mode) (r : ℕ) : Type 0 where
+  pub mix : mode ≡ Mix
+  pub place : ℕ
+  pub within : place + 1 < length rs
+  pub above : getD rs place 0 < r
+  pub below : r < getD rs (place + 1) 0
+
+-- It says printed exactly where the depth is one of the sheet's and no mixing took place.
+abbrev pub PrintedExactly : Type 0
+PrintedExactly =
+    (ds rs ps : List ℕ) (mode : Mode) (r d : ℕ) → Usable ds rs ps r
+    → (basisOf ds rs mode r d ≡ Printed) ↔ (OfSheet ds d × (Mixing rs mode r → ⊥))
+
+-- Where it says printed, the percent is the sheet's own number at that depth, in the row of the fastest rate not above the site rate.
+abbrev pub PrintedStandsInTheSheet : Type 0
+PrintedStandsInTheSheet =
+    (ds rs ps : List ℕ) (mode : Mode) (r d : ℕ) → Usable ds rs ps r → basisOf ds rs mode r d ≡ Printed
+    → (here : OfSheet ds d) × (percentOf ds rs ps mode r d ≡ printedAt ds rs ps r (here .place))
+
+-- Where it says held, the percent is the one at the last depth.
+abbrev pub HeldIsTheLast : Type 0
+HeldIsTheLast =
+    (ds rs ps : List ℕ) (mode : Mode) (r d : ℕ) → Usable ds rs ps r → basisOf ds rs mode r d ≡ Held
+    → percentOf ds rs ps mode r d ≡ percentOf ds rs ps mode r (getD ds (length ds - 1) 0)
+
+-- What is given back for a usable sheet and rate: the percent at a depth of the grid, with its basis, and 9 above it;
 pub record PercentGiven (ds rs ps : List ℕ) (mode : Mode) (r d : ℕ) : Type 0 where
-  pub on-grid : d ≤ highestDepth → given (percentAnswer ds rs ps mode r d) ≡ (granted, percentOf ds rs ps mode r d, 0, 0)
-  pub too-deep : highestDepth < d → given (percentAnswer ds rs ps mode r d) ≡ (numberOf AmountOutOfRange, 0, 0, 0)
+  pub on-grid : d ≤ highestDepth
+      → given (percentAnswer ds rs ps mode r d) ≡ (granted, percentOf ds rs ps mode r d, basisNumber (basisOf ds rs mode r d), 0, 0)
+  pub too-deep : highestDepth < d → given (percentAnswer ds rs ps mode r d) ≡ (numberOf AmountOutOfRange, 0, 0, 0, 0)
 
 abbrev pub PercentsGiven : Type 0
 PercentsGiven = (ds rs ps : List ℕ) (mode : Mode) (r d : ℕ) → Usable ds rs ps r → PercentGiven ds rs ps mode r d
@@ -142,19 +188,19 @@ abbrev pub PercentGrantedExactly : Type 0
 PercentGrantedExactly =
     (ds rs ps : List ℕ) (mode : Mode) (r d : ℕ) → (given (percentAnswer ds rs ps mode r d) .0 ≡ granted) ↔ (Usable ds rs ps r × (d ≤ highestDepth))
 
--- the numbers of a target are those of its least depth, with its percent
-pub record LeastGiven (percent : ℕ → ℕ) (target : ℕ) (numbers : ℕ × ℕ × ℕ × ℕ × ℕ) : Type 0 where
+-- the numbers of a target are those of its least depth, with its percent and the basis of that
+pub record LeastGiven (percent : ℕ → ℕ) (basis : ℕ → Basis) (target : ℕ) (numbers : ℕ × ℕ × ℕ × ℕ × ℕ × ℕ) : Type 0 where
   pub depth : ℕ
   pub is-least : IsLeast percent target depth
-  pub are : numbers ≡ (granted, depth, percent depth, 0, 0)
+  pub are : numbers ≡ (granted, depth, percent depth, basisNumber (basis depth), 0, 0)
 
--- for a target the least depth with its percent; 9 above 100 percent, else 10 above the percent at depth 200;
+-- for a target the least depth with its percent and basis; 9 above 100 percent, else 10 above the percent at depth 200;
 pub record DepthGiven (ds rs ps : List ℕ) (mode : Mode) (r target : ℕ) : Type 0 where
   pub found : target ≤ percentOf ds rs ps mode r highestDepth
-      → LeastGiven (percentOf ds rs ps mode r) target (reachGiven (reachOf ds rs ps mode r target))
-  pub too-high : mostPercent < target → reachGiven (reachOf ds rs ps mode r target) ≡ (numberOf AmountOutOfRange, 0, 0, 0, 0)
+      → LeastGiven (percentOf ds rs ps mode r) (basisOf ds rs mode r) target (reachGiven (reachOf ds rs ps mode r target))
+  pub too-high : mostPercent < target → reachGiven (reachOf ds rs ps mode r target) ≡ (numberOf AmountOutOfRange, 0, 0, 0, 0, 0)
   pub short : target ≤ mostPercent → percentOf ds rs ps mode r highestDepth < target
-      → reachGiven (reachOf ds rs ps mode r target) ≡ (numberOf TargetUnreachable, 0, 0, 0, 0)
+      → reachGiven (reachOf ds rs ps mode r target) ≡ (numberOf TargetUnreachable, 0, 0, 0, 0, 0)
 
 abbrev pub DepthsGiven : Type 0
 DepthsGiven = (ds rs ps : List ℕ) (mode : Mode) (r target : ℕ) → Usable ds rs ps r → DepthGiven ds rs ps mode r target
@@ -165,10 +211,19 @@ ReachGrantedExactly =
     (ds rs ps : List ℕ) (mode : Mode) (r target : ℕ)
     → (reachGiven (reachOf ds rs ps mode r target) .0 ≡ granted) ↔ (Usable ds rs ps r × (target ≤ percentOf ds rs ps mode r highestDepth))
 
+-- Every percent that is granted has a basis: its number is not that of none.
+pub record SaysHow (ds rs ps : List ℕ) (mode : Mode) (r : ℕ) : Type 0 where
+  pub percent : (d : ℕ) → given (percentAnswer ds rs ps mode r d) .0 ≡ granted → given (percentAnswer ds rs ps mode r d) .2 ≡ basisNumber None → ⊥
+  pub reach : (target : ℕ) → reachGiven (reachOf ds rs ps mode r target) .0 ≡ granted
+      → reachGiven (reachOf ds rs ps mode r target) .3 ≡ basisNumber None → ⊥
+
+abbrev pub NeverNone : Type 0
+NeverNone = (ds rs ps : List ℕ) (mode : Mode) (r : ℕ) → SaysHow ds rs ps mode r
+
 -- the call for a percent at any depth and the call for any target give back this number, list and place, and zeros
 pub record BothGive (ds rs ps : List ℕ) (mode : Mode) (r number list place : ℕ) : Type 0 where
-  pub percent : (d : ℕ) → given (percentAnswer ds rs ps mode r d) ≡ (number, 0, list, place)
-  pub reach : (target : ℕ) → reachGiven (reachOf ds rs ps mode r target) ≡ (number, 0, 0, list, place)
+  pub percent : (d : ℕ) → given (percentAnswer ds rs ps mode r d) ≡ (number, 0, 0, list, place)
+  pub reach : (target : ℕ) → reachGiven (reachOf ds rs ps mode r target) ≡ (number, 0, 0, 0, list, place)
 
 -- What is not usable: 5 first, for a sheet that breaks its rules, with its list and place; else 6 for a rate above what the sheet takes;
 -- else 7 for a rate below the slowest; whatever the depth or the target.

@@ -5,6 +5,7 @@ ghost use lib.ListN.{length, getD};
 ghost use Rattle.laws.specs.Line.{line};
 ghost use Rattle.sheet.specs.Sheet.{previous};
 ghost use Rattle.curve.specs.Curve.{held, segment, width, height, fastest, curvesOf, exactIn, exactAt, percentAt};
+ghost use Rattle.curve.specs.Basis.{mixes, basisAt, basisNumber};
 ghost use Rattle.curve.specs.Inner.{OnLine, InSegment, Rated, Between, Ready, Reaching};
 ghost use Rattle.curve.specs.Answers.{fastestTaken, rated, admissionOf, percentAnswer, reachOf};
 use refusal::Refusal;
@@ -34,6 +35,20 @@ pub enum Curves {
     },
 }
 
+// How a percent was found.
+pub enum Basis {
+    // No percent was asked for, or it was refused.
+    None,
+    // The depth is one of the sheet's, and nothing was mixed.
+    Printed,
+    // Another depth from the first to the last, or a mixture.
+    Between,
+    // Below the first depth.
+    Start,
+    // Beyond the last depth.
+    Held,
+}
+
 // An exact percent: over / under thousandths.
 pub struct Fraction {
     pub over: u64,
@@ -48,14 +63,14 @@ pub enum Admission {
 }
 
 pub enum PercentAnswer {
-    Granted(Percent),
+    Granted(Percent, Basis),
     BadSheet { list: u64, place: usize },
     Refused(Refusal),
 }
 
-// What is found for a target: the least grid depth and its percent, or why there is none.
+// What is found for a target: the least grid depth, its percent and the basis of that, or why there is none.
 pub enum Reached {
-    Found(Depth, Percent),
+    Found(Depth, Percent, Basis),
     // 9: the target is above 100 percent.
     TooHigh,
     // 10: no grid depth reaches the target.
@@ -228,6 +243,54 @@ fn percent_at(
     Percent(f.over / f.under)
 }
 
+// Two curves are mixed: the site rate is above the slower one.
+fn mixes(curves: Curves) -> bool
+    ensures { λ r. ⌜ r ≡ mixes curves ⌝ }
+{
+    match curves {
+        Curves::One(_) => false,
+        Curves::Two {
+            low: _,
+            slow,
+            fast: _,
+            rate,
+        } => slow.0 < rate.0,
+    }
+}
+
+// How the percent at a depth was found.
+fn basis_at(depths: &[u64], curves: Curves, depth: Depth) -> Basis
+    requires { ⌜ 1 ≤ length (now depths) ⌝ }
+    ensures { λ r. ⌜ r ≡ basisAt (now (depths .entry)) curves (depth .0) ⌝ }
+{
+    if depth.0 < depths[0] {
+        return Basis::Start;
+    }
+    if depths[depths.len() - 1] < depth.0 {
+        return Basis::Held;
+    }
+    if mixes(curves) {
+        return Basis::Between;
+    }
+    if depths[segment(depths, depth.0)] == depth.0 {
+        return Basis::Printed;
+    }
+    Basis::Between
+}
+
+// The number of a basis.
+pub fn basis_number(basis: Basis) -> u64
+    ensures { λ r. ⌜ r ≡ basisNumber basis ⌝ }
+{
+    match basis {
+        Basis::None => 0,
+        Basis::Printed => 1,
+        Basis::Between => 2,
+        Basis::Start => 3,
+        Basis::Held => 4,
+    }
+}
+
 // A depth that was searched for, and its percent.
 struct Lowest {
     depth: Depth,
@@ -302,7 +365,7 @@ fn admit(depths: &[u64], rates: &[u64], percents: &[u64], mode: Mode, rate: Rate
     }
 }
 
-// The percent of a lent sheet at a site rate and a depth.
+// The percent of a lent sheet at a site rate and a depth, with its basis.
 pub fn percent(
     depths: &[u64],
     rates: &[u64],
@@ -317,7 +380,10 @@ pub fn percent(
     match admission {
         Admission::Admitted(curves) => {
             if depth.0 <= Depth::HIGHEST {
-                return PercentAnswer::Granted(percent_at(depths, rates, percents, curves, depth));
+                return PercentAnswer::Granted(
+                    percent_at(depths, rates, percents, curves, depth),
+                    basis_at(depths, curves, depth),
+                );
             }
             PercentAnswer::Refused(Refusal::AmountOutOfRange)
         }
@@ -326,7 +392,7 @@ pub fn percent(
     }
 }
 
-// The least grid depth of a lent sheet whose percent is at least the target, with that percent.
+// The least grid depth of a lent sheet whose percent is at least the target, with that percent and its basis.
 pub fn reach(
     depths: &[u64],
     rates: &[u64],
@@ -347,7 +413,7 @@ pub fn reach(
             let depth = found.depth;
             let percent = found.percent;
             if depth.0 <= Depth::HIGHEST {
-                return Reached::Found(depth, percent);
+                return Reached::Found(depth, percent, basis_at(depths, curves, depth));
             }
             Reached::Short
         }

@@ -1,4 +1,4 @@
--- The promises on the places hold: a practice's sheet stands where its place says, and 4 is given where there is none.
+-- The promises hold: a practice's sheet stands where its place says, 4 is given where there is none, and no percent is held.
 -- Assumes nothing.
 use Prim.Native.Nat.{ℕ, _<_}
 use mathlib.Core.Bool.{true, false}
@@ -10,9 +10,12 @@ use Rattle.refusal.specs.declared.Refusal.the-variants.{NoPublishedSheet}
 use Rattle.refusal.specs.Refusal.{numberOf, granted}
 use Rattle.refusal.proofs.Numbers.{refusal-not-granted}
 use Rattle.units.specs.declared.Nutrient.{Nutrient}
-use Rattle.published.specs.Published.{lastPractice, isPublished, given}
+use Rattle.curve.specs.Curve.{curvesOf}
+use Rattle.curve.proofs.Found.{told-held}
+use Rattle.published.specs.Tables.{depths}
+use Rattle.published.specs.Published.{lastPractice, ratesOf, isPublished, given}
 use Rattle.published.specs.Inner.{sheetPlace}
-use Rattle.published.specs.Promises.{SheetStandsThere, FourExactly, GrantedElse}
+use Rattle.published.specs.Promises.{NeverHeld, SheetStandsThere, FourExactly, GrantedElse}
 use Rattle.published.specs.declared.Place.{Place}
 use Rattle.published.specs.declared.Place.the-variants.{At, Refused}
 use Rattle.published.proofs.Places.{found-published, found-rates, found-percents, refused-why, refused-published, none-above, depths-in}
@@ -60,3 +63,8 @@ four-exactly practice nutrient = (
 
 pub granted-else : GrantedElse
 granted-else practice nutrient e = granted-there practice nutrient (sheetPlace practice nutrient) refl e
+
+pub never-held : NeverHeld
+never-held practice nutrient mode r d h e =
+    let l = told-held depths (curvesOf (ratesOf practice nutrient) mode r) d e in
+    omega arith

@@ -8,7 +8,11 @@ use lib.ListN.{length, take, drop}
 use Rattle.refusal.specs.declared.Refusal.the-variants.{NoPublishedSheet}
 use Rattle.refusal.specs.Refusal.{numberOf, granted}
 use Rattle.units.specs.declared.Nutrient.{Nutrient}
+use Rattle.units.specs.Limits.{highestDepth}
 use Rattle.sheet.specs.Sheet as sheet
+use Rattle.curve.specs.declared.Mode.{Mode}
+use Rattle.curve.specs.declared.Basis.the-variants.{Held}
+use Rattle.curve.specs.Basis.{basisOf}
 use Rattle.curve.specs.Promises.{FasterIsNoLess}
 use Rattle.published.specs.Tables.{depths}
 use Rattle.published.specs.Published.{lastPractice, ratesOf, percentsOf, isPublished, allSheets, given}
@@ -29,6 +33,12 @@ EveryPracticeHasOne = (practice : ℕ) (nutrient : Nutrient) → practice ≤ la
 abbrev pub NoneFallsWithRate : Type 0
 NoneFallsWithRate =
     (practice : ℕ) (nutrient : Nutrient) → FasterIsNoLess depths (ratesOf practice nutrient) (percentsOf practice nutrient)
+
+-- The last depth of every table is 200: no percent at a depth of the grid is held beyond it.
+abbrev pub NeverHeld : Type 0
+NeverHeld =
+    (practice : ℕ) (nutrient : Nutrient) (mode : Mode) (r d : ℕ) → d ≤ highestDepth
+    → basisOf depths (ratesOf practice nutrient) mode r d ≡ Held → ⊥
 
 -- The list of all sheets starts with the depths, and where the places of a practice's sheet are given, it holds the practice's rates from
 -- the first place to the second, and its percents from there to the end.

@@ -7,7 +7,7 @@ use Rattle.sheet.specs.declared.Verdict.{Verdict as SheetVerdict}
 use Rattle.sheet.specs.Sheet.{given as verdictGiven}
 use Rattle.curve.specs.declared.Mode.{Mode}
 use Rattle.curve.specs.declared.Mode.the-variants.{Step, Mix}
-use Rattle.curve.specs.declared.PercentAnswer.{PercentAnswer}
+use Rattle.curve.specs.declared.PercentAnswer.{PercentAnswer as CurveAnswer}
 use Rattle.curve.specs.Answers.{given as percentGiven}
 use Rattle.probe.specs.declared.Reading.{Reading}
 use Rattle.probe.specs.declared.Reading.the-variants.{InchesPerHour, MillimetresPerHour}
@@ -18,6 +18,7 @@ use Rattle.writing.specs.declared.Written.{Written}
 use Rattle.writing.specs.Writing.{writtenGiven}
 use Rattle.sagecruet.specs.declared.Part.{Part}
 use Rattle.sagecruet.specs.declared.Verdict.{Verdict}
+use Rattle.sagecruet.specs.declared.PercentAnswer.{PercentAnswer}
 use Rattle.sagecruet.specs.declared.Value.{Value}
 
 -- the length of the answer text that was written: 0 for refusal 13
@@ -32,9 +33,16 @@ ofSpan s = record { from = s .from; len = s .to - s .from }
 abbrev pub ofVerdict : SheetVerdict → Verdict
 ofVerdict v = record { answer = verdictGiven v .0; list = verdictGiven v .1; place = verdictGiven v .2 }
 
--- the number of an answer, and its percent
-abbrev pub ofPercent : PercentAnswer → Value
-ofPercent a = record { answer = percentGiven a .0; value = percentGiven a .1 }
+-- the number of an answer, its percent with the number of its basis, and the list and place of refusal 5
+abbrev pub ofPercent : CurveAnswer → PercentAnswer
+ofPercent a =
+    record {
+      answer = percentGiven a .0;
+      percent = percentGiven a .1;
+      basis = percentGiven a .2;
+      list = percentGiven a .3;
+      place = percentGiven a .4;
+    }
 
 -- the number of an answer, and its rate
 abbrev pub ofRate : RateAnswer → Value

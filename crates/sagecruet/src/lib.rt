@@ -9,7 +9,6 @@ ghost use Rattle.writing.specs.Writing.{writtenOf, bufferOf};
 ghost use Rattle.calculator.specs.Outcome.{byTables, byLent, outcomeOf};
 ghost use Rattle.sagecruet.specs.Numbers.{ofWritten, ofSpan, ofVerdict, ofPercent, ofRate, modeOf, readingIn};
 use curve::Mode;
-use curve::PercentAnswer;
 use probe::RateAnswer;
 use probe::Reading;
 use refusal::Refusal;
@@ -28,6 +27,16 @@ pub struct Part {
 #[repr(C)]
 pub struct Verdict {
     pub answer: u64,
+    pub list: u64,
+    pub place: u64,
+}
+
+// A percent with the number of its basis: 0, or a refusal, 5 with the list and the place.
+#[repr(C)]
+pub struct PercentAnswer {
+    pub answer: u64,
+    pub percent: u64,
+    pub basis: u64,
     pub list: u64,
     pub place: u64,
 }
@@ -66,21 +75,30 @@ fn of_verdict(verdict: sheet::Verdict) -> Verdict
     }
 }
 
-fn of_percent(found: PercentAnswer) -> Value
+fn of_percent(found: curve::PercentAnswer) -> PercentAnswer
     ensures { λ r. ⌜ r ≡ ofPercent found ⌝ }
 {
     match found {
-        PercentAnswer::Granted(percent) => Value {
+        curve::PercentAnswer::Granted(percent, basis) => PercentAnswer {
             answer: 0,
-            value: percent.0,
+            percent: percent.0,
+            basis: curve::basis_number(basis),
+            list: 0,
+            place: 0,
         },
-        PercentAnswer::BadSheet { list: _, place: _ } => Value {
+        curve::PercentAnswer::BadSheet { list, place } => PercentAnswer {
             answer: refusal::number(Refusal::UnfitSheet),
-            value: 0,
+            percent: 0,
+            basis: 0,
+            list,
+            place: place as u64,
         },
-        PercentAnswer::Refused(why) => Value {
+        curve::PercentAnswer::Refused(why) => PercentAnswer {
             answer: refusal::number(why),
-            value: 0,
+            percent: 0,
+            basis: 0,
+            list: 0,
+            place: 0,
         },
     }
 }
@@ -162,7 +180,7 @@ pub extern "C" fn sagecruet_sheet(depths: &[u64], rates: &[u64], percents: &[u64
     of_verdict(sheet::judge(depths, rates, percents))
 }
 
-// The percent of a sheet at a rate and a depth.
+// The percent of a sheet at a rate and a depth, with its basis.
 #[no_mangle]
 pub extern "C" fn sagecruet_percent(
     depths: &[u64],
@@ -171,7 +189,7 @@ pub extern "C" fn sagecruet_percent(
     mix: bool,
     rate: u64,
     depth: u64,
-) -> Value
+) -> PercentAnswer
     ensures { λ r. ⌜ r ≡ ofPercent (percentAnswer (now (depths .entry)) (now (rates .entry)) (now (percents .entry)) (modeOf mix) rate depth) ⌝ }
 {
     of_percent(curve::percent(

@@ -119,6 +119,42 @@ fn sheet_of_the_rules() {
     }
 }
 
+// How a percent of the rules' sheet T is found.
+fn say_basis(mode: Mode, rate: u64, depth: u64) {
+    let depths = [20, 60, 100];
+    let rates = [25, 75];
+    let percents = [20000, 50000, 70000, 40000, 65000, 80000];
+    let found = percent_in(curve::percent(
+        &depths,
+        &rates,
+        &percents,
+        mode,
+        Rate(rate),
+        Depth(depth),
+    ));
+    say(
+        b"basis",
+        &[mode_number(mode), rate, depth, found[0], found[1]],
+    );
+}
+
+fn bases_of(mode: Mode, rate: u64) {
+    for depth in 0..=Depth::HIGHEST {
+        say_basis(mode, rate, depth);
+    }
+}
+
+// The same at every depth, at a rate in mode step and at rates of the sheet, beside them and between them in mode mix.
+fn bases() {
+    bases_of(Mode::Step, 50);
+    bases_of(Mode::Mix, 25);
+    bases_of(Mode::Mix, 26);
+    bases_of(Mode::Mix, 50);
+    bases_of(Mode::Mix, 74);
+    bases_of(Mode::Mix, 75);
+    bases_of(Mode::Mix, 76);
+}
+
 fn say_reading(reading: Reading) {
     let found = probe::rate(reading);
     match found {
@@ -224,24 +260,33 @@ fn loads_of(nutrient: Nutrient) {
     loads_of_use(nutrient, LandUse::Ag, 8);
 }
 
-// The number given back, the depth, the credit, the volume and the removed load of an answer: zeros beside a refusal.
-fn values(answer: CreditAnswer) -> [u64; 5] {
+// The number given back, the depth, the credit, its basis, the volume and the removed load of an answer: zeros beside a refusal.
+fn values(answer: CreditAnswer) -> [u64; 6] {
     match answer {
-        CreditAnswer::Granted(f) => [0, f.depth.0, f.percent.0, f.volume.0, f.removed.0],
-        CreditAnswer::BadSheet { list: _, place: _ } => {
-            [refusal::number(Refusal::UnfitSheet), 0, 0, 0, 0]
+        CreditAnswer::Granted(f) => {
+            let basis = f.basis;
+            [
+                0,
+                f.depth.0,
+                f.percent.0,
+                curve::basis_number(basis),
+                f.volume.0,
+                f.removed.0,
+            ]
         }
-        CreditAnswer::Refused(why) => [refusal::number(why), 0, 0, 0, 0],
+        CreditAnswer::BadSheet { list: _, place: _ } => {
+            [refusal::number(Refusal::UnfitSheet), 0, 0, 0, 0, 0]
+        }
+        CreditAnswer::Refused(why) => [refusal::number(why), 0, 0, 0, 0, 0],
     }
 }
 
-// The percent of a published sheet; 0 where it is refused.
-fn percent_at(practice: u64, nutrient: Nutrient, mode: Mode, rate: u64, depth: u64) -> u64 {
-    let found = published::percent(practice, nutrient, mode, Rate(rate), Depth(depth));
+// A percent and its basis: zeros where it is refused.
+fn percent_in(found: PercentAnswer) -> [u64; 2] {
     match found {
-        PercentAnswer::Granted(percent) => percent.0,
-        PercentAnswer::BadSheet { list: _, place: _ } => 0,
-        PercentAnswer::Refused(_) => 0,
+        PercentAnswer::Granted(percent, basis) => [percent.0, curve::basis_number(basis)],
+        PercentAnswer::BadSheet { list: _, place: _ } => [0, 0],
+        PercentAnswer::Refused(_) => [0, 0],
     }
 }
 
@@ -257,7 +302,8 @@ fn volume_at(site: Site, depth: u64) -> u64 {
 // A printed percent, by volume and by target, on one commercial impervious acre.
 fn say_point(practice: u64, nutrient: Nutrient, mode: Mode, rate: u64, depth: u64) {
     let acre = with(site::empty(), LandUse::Com, Cover::Imp, Soil::NoSoil, 100);
-    let percent = percent_at(practice, nutrient, mode, rate, depth);
+    let found = percent_in(published::percent(practice, nutrient, mode, Rate(rate), Depth(depth)));
+    let percent = found[0];
     let volume = Wanted::Credit(Volume(volume_at(acre, depth)));
     let target = Wanted::Size(Percent(percent));
     let credited = values(credit::answer(acre, nutrient, practice, mode, Rate(rate), volume));
@@ -271,15 +317,18 @@ fn say_point(practice: u64, nutrient: Nutrient, mode: Mode, rate: u64, depth: u6
             rate,
             depth,
             percent,
+            found[1],
             credited[0],
             credited[1],
             credited[2],
-            credited[4],
+            credited[3],
+            credited[5],
             sized[0],
             sized[1],
             sized[2],
             sized[3],
             sized[4],
+            sized[5],
         ],
     );
 }
@@ -349,6 +398,7 @@ fn points() {
 fn main() {
     runoffs();
     sheet_of_the_rules();
+    bases();
     readings();
     sample();
     loads_of(Nutrient::P);

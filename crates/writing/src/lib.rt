@@ -1,9 +1,11 @@
-// Rules, "Job and answer text" and "The numbers given back": a text and a number's digits, put at the start of a lent buffer.
+// Rules, "Job and answer text" and "The numbers given back": a text, a word of a list and a number's digits, put at the start of a
+// lent buffer.
 ghost use mathlib.Core.Path.{_≡_};
 ghost use Prim.Native.Nat.{_+_, _≤_, _<_};
 ghost use lib.ListN.{length};
 ghost use Rattle.text.specs.Numbers.{digitZero, decimalOf};
 ghost use Rattle.writing.specs.Writing.{putLength, bufferOf};
+ghost use Rattle.writing.specs.Lines.{wordAt};
 use refusal::Refusal;
 
 // The length of the text that was written, or the refusal.
@@ -48,6 +50,37 @@ pub fn put(s: &[u8], buf: &mut [u8]) -> usize
         i += 1;
     }
     s.len()
+}
+
+// The word at place k of a list, counted from 0: nothing where there is none. The list has a row of so many bytes for each word,
+// filled up with spaces.
+fn word(words: &[u8], width: usize, k: usize) -> &[u8]
+    ensures { λ r. ⌜ now r ≡ wordAt width (now (words .entry)) k ⌝ }
+{
+    if width < 1 {
+        return &words[0..0];
+    }
+    if words.len() / width <= k {
+        return &words[0..0];
+    }
+    let row = k * width;
+    let size = text::next(&words[row..row + width], b' ', 0);
+    &words[row..row + size]
+}
+
+// The length of that word.
+pub fn word_size(words: &[u8], width: usize, k: usize) -> usize
+    ensures { λ r. ⌜ r ≡ length (wordAt width (now (words .entry)) k) ⌝ }
+{
+    word(words, width, k).len()
+}
+
+// Puts that word at the start of buf.
+pub fn put_word(words: &[u8], width: usize, k: usize, buf: &mut [u8]) -> usize
+    ensures { λ r. ⌜ r ≡ putLength (now (buf .entry)) (wordAt width (now (words .entry)) k) ⌝ }
+    ensures { λ _. ⌜ now (buf .exit) ≡ bufferOf (now (buf .entry)) (wordAt width (now (words .entry)) k) ⌝ }
+{
+    put(word(words, width, k), buf)
 }
 
 // The same for the digits of n: how many there are is worked out first, and they fill the part of buf that is lent on.

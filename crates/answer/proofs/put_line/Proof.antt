@@ -6,7 +6,8 @@ use lib.ListN.{drop}
 use Rattle.writing.proofs.Rest.{Stage, exact, next, first-fits, first-long, rest-within, byte-within, begun-byte, begun-fits, begun-length, begun-buffer}
 use Rattle.writing.proofs.put.Reads as put-reads
 use Rattle.writing.proofs.put_number.Reads as put-number-reads
-use Rattle.answer.specs.Lines.{lineOf}
+use Rattle.text.specs.Numbers.{decimalOf}
+use Rattle.writing.specs.Lines.{lineOf}
 use Rattle.answer.proofs.Texts.{linePieces, line-begun}
 use Rattle.answer.proofs.put_line.Reads as reads
 use Rattle.answer.proofs.put_line.Lts as lts
@@ -17,10 +18,10 @@ use Rattle.answer.proofs.put_line.Tie as tie
 abbrev Pieces : ℕ → Type 0
 Pieces k =
     (start : lts.Start (put-reads.Asked, put-reads.Learnt, put-number-reads.Asked, put-number-reads.Learnt) reads.Pre reads.Post)
-    × Stage (start .args .buf .now) (lineOf (start .args .key .now) (start .args .n)) (drop k (linePieces (start .args .key .now) (start .args .n)))
+    × Stage (start .args .buf .now) (lineOf (start .args .key .now) (start .args .n)) (drop k (linePieces (start .args .key .now) (decimalOf (start .args .n))))
 
 abbrev pieces₀ : lts.Start (put-reads.Asked, put-reads.Learnt, put-number-reads.Asked, put-number-reads.Learnt) reads.Pre reads.Post → Pieces 0
-pieces₀ c = (c, (c .args .buf .now, 0, line-begun (c .args .buf .now) (c .args .key .now) (c .args .n) (c .pre)))
+pieces₀ c = (c, (c .args .buf .now, 0, line-begun (c .args .buf .now) (c .args .key .now) (decimalOf (c .args .n)) (c .pre)))
 
 abbrev pieces₁ : lts.After-put (put-reads.Asked, put-reads.Learnt, put-number-reads.Asked, put-number-reads.Learnt) reads.Pre reads.Post → Pieces 1
 pieces₁ c =

@@ -9,7 +9,9 @@ array-copy-out-impervious : tie.Need-array-copy-out-impervious
 array-copy-out-impervious c = search needs
 
 returns : tie.Need-returns
-returns c = search (credit-dry _ _ _ (c .before .before .before .before .pre .0), needs)
+returns c =
+    let start = c .before .before .before .before in
+    search (credit-dry _ _ _ (start .pre .0) (start .args .basis), needs)
 
 enum-known-reached : tie.Need-enum-known-reached
 enum-known-reached c = search needs
@@ -21,10 +23,14 @@ enum-known-reached-2 : tie.Need-enum-known-reached-2
 enum-known-reached-2 c = search needs
 
 returns-2 : tie.Need-returns-2
-returns-2 c = search (credit-granted _ _ _ (c .before .before .before .before .before .before .before .before .pre .0), needs)
+returns-2 c =
+    let start = c .before .before .before .before .before .before .before .before in
+    search (credit-granted _ _ _ (start .pre .0) (start .args .basis), needs)
 
 returns-3 : tie.Need-returns-3
-returns-3 c = search (credit-refused _ _ _ (c .before .before .before .before .before .before .before .pre .0), needs)
+returns-3 c =
+    let start = c .before .before .before .before .before .before .before in
+    search (credit-refused _ _ _ (start .pre .0) (start .args .basis), needs)
 
 pub credited-spec : {M : Type 1} → statement M
 credited-spec =

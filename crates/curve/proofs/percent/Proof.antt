@@ -1,6 +1,6 @@
 -- `curve::percent` meets its contract: an admitted sheet is ready for every depth, and the depth is tried last.
 -- Assumes nothing.
-use Rattle.curve.proofs.Answering.{admitted-ready, percent-granted, percent-deep, percent-bad, percent-refused}
+use Rattle.curve.proofs.Answering.{admitted-ready, admitted-depths, percent-granted, percent-deep, percent-bad, percent-refused}
 use borrow.Author.Needs.{needs}
 use Rattle.curve.proofs.percent.Statement.{statement}
 use Rattle.curve.proofs.percent.Tie as tie
@@ -13,6 +13,9 @@ enum-known-admission c = search needs
 
 percent-at-requires : tie.Need-percent-at-requires
 percent-at-requires c κs = search (admitted-ready, needs)
+
+basis-at-requires : tie.Need-basis-at-requires
+basis-at-requires c κs = search (admitted-depths, needs)
 
 returns : tie.Need-returns
 returns c = search (percent-granted, needs)
@@ -39,6 +42,7 @@ percent-spec =
     admit-requires
     enum-known-admission
     percent-at-requires
+    basis-at-requires
     returns
     enum-known-admission-2
     enum-known-admission-3

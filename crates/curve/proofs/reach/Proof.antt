@@ -1,6 +1,6 @@
 -- `curve::reach` meets its contract: an admitted sheet is ready for every depth, and the least depth is on the grid where the target is reached.
 -- Assumes nothing.
-use Rattle.curve.proofs.Answering.{admitted-ready, reach-high, reach-bad, reach-refused}
+use Rattle.curve.proofs.Answering.{admitted-ready, admitted-depths, reach-high, reach-bad, reach-refused}
 use Rattle.curve.proofs.Searching.{found-reached, found-short}
 use borrow.Author.Needs.{needs}
 use Rattle.curve.proofs.reach.Statement.{statement}
@@ -17,6 +17,9 @@ returns c = search (reach-high, needs)
 
 least-requires : tie.Need-least-requires
 least-requires c κs = search (admitted-ready, needs)
+
+basis-at-requires : tie.Need-basis-at-requires
+basis-at-requires c κs = search (admitted-depths, needs)
 
 returns-2 : tie.Need-returns-2
 returns-2 c = search (found-reached, needs)
@@ -44,6 +47,7 @@ reach-spec =
     enum-known-admission
     returns
     least-requires
+    basis-at-requires
     returns-2
     enum-known-admission-2
     enum-known-admission-3
