@@ -34,10 +34,10 @@ percent before it was found: printed 1, between 2, start 3, held 4 (none 0 would
 
     point PRACTICE NUTRIENT MODE RATE DEPTH PERCENT BASIS ANSWER DEPTH CREDIT BASIS REMOVED
           ANSWER DEPTH CREDIT BASIS VOLUME REMOVED
-        on one line: every printed percent of Tables 3-6 to 3-25 but 3-22, for each practice, nutrient, mode, rate and depth in turn,
-        rates and depths in the tables' order: the percent of the published sheet there; then the answer of crediting
-        the volume V(DEPTH) on a site of one commercial impervious acre (area 100); then the answer of sizing on that
-        site with the printed percent for the target
+        on one line: every printed percent of Tables 3-6 to 3-25 but 3-22, for each practice, nutrient, mode, rate and
+        depth in turn, rates and depths in the tables' order: the percent of the published sheet there; then the answer
+        of crediting the volume V(DEPTH) on a site of one commercial impervious acre (area 100); then the answer of
+        sizing on that site with the printed percent for the target
 """
 
 import struct

@@ -158,9 +158,11 @@ fn put_basis(basis: Basis, buf: &mut [u8]) -> usize
     ensures { λ r. ⌜ r ≡ putLength (now (buf .entry)) (lineWith (bytes "basis=") (basisWord basis)) ⌝ }
     ensures { λ _. ⌜ now (buf .exit) ≡ bufferOf (now (buf .entry)) (lineWith (bytes "basis=") (basisWord basis)) ⌝ }
 {
+    let key: &[u8] = b"basis=";
+    let value = key.len();
     let k = curve::basis_number(basis) as usize;
-    writing::put(b"basis=", &mut buf[..6]);
-    let last = 6 + writing::put_word(&BASES, BASIS_WIDTH, k, &mut buf[6..]);
+    writing::put(key, &mut buf[..value]);
+    let last = value + writing::put_word(&BASES, BASIS_WIDTH, k, &mut buf[value..]);
     buf[last] = b'\n';
     last + 1
 }

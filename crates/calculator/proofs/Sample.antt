@@ -2,6 +2,7 @@
 -- Assumes nothing.
 use mathlib.Core.List.{flatten}
 use mathlib.Core.Path.{_≡_, refl, _∙_, ap}
+use lib.ListN.{length}
 use Rattle.laws.specs.Sum.{sumOf}
 use Rattle.site.specs.Judging.{judgedFrom, judged}
 use Rattle.site.specs.Adding.{addAnswer, addedTo, added}
@@ -34,4 +35,4 @@ pub sample-answered : SampleAnswered
 sample-answered = ap answerText sample-outcome ∙ sample-text
 
 pub sample-long : SampleLong
-sample-long = refl
+sample-long = ap length sample-answered

@@ -166,12 +166,13 @@ sampleJob =
 abbrev pub sampleText : List ℕ
 sampleText = bytes "answer=0\nload=1568350\ndepth=0\ncredit=0\nbasis=none\nvolume=0\nremoved=0\n"
 
--- From the bytes of the job to those of its answer, of which there are 69.
+-- From the bytes of the job to those of its answer,
 abbrev pub SampleAnswered : Type 0
 SampleAnswered = answerText (outcomeOf byTables sampleJob) ≡ sampleText
 
+-- of which there are 69.
 abbrev pub SampleLong : Type 0
-SampleLong = length sampleText ≡ 69
+SampleLong = length (answerText (outcomeOf byTables sampleJob)) ≡ 69
 
 -- A lent buffer holds what it held before where the writing is refused; where it is granted, all behind the text is as it was.
 abbrev pub BufferKept : Type 0

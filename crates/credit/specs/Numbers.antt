@@ -1,5 +1,5 @@
--- Rules, "Numbers to hold on to": the starred ones, all together as one list, each with all the numbers that its call gives back; and
--- how credits are found. Proved in proofs/Numbers.antt.
+-- Rules, "Numbers to hold on to": the starred ones, all together as one list, each with all the numbers that its call gives back but
+-- that of the basis; and how credits are found. Proved in proofs/Numbers.antt.
 -- Assumes nothing.
 use Prim.Native.Nat.{ℕ}
 use mathlib.Core.List.{List, [], _∷_, _++_}

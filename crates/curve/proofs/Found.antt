@@ -23,7 +23,7 @@ use Rattle.curve.specs.declared.Basis.the-variants.{None, Printed, Betwe
 use Rattle.curve.specs.Curve.{segment, fastest, curvesOf, roundedDown, percentAt, percentOf}
 use Rattle.curve.specs.Basis.{mixes, isPrinted, basisAt, basisOf, basisNumber}
 use Rattle.curve.specs.Answers.{percentAnswer, reachOf, given, reachGiven}
-use Rattle.curve.specs.Promises.{Usable, StartExactly, HeldExactly, OfSheet, Mixing, PrintedExactly, printedAt, PrintedStandsInTheSheet, HeldIsTheLast, NeverNone}
+use Rattle.curve.specs.Promises.{Usable, StartExactly, HeldExactly, OfSheet, Mixing, PrintedExactly, BetweenExactly, printedAt, PrintedStandsInTheSheet, HeldIsTheLast, NeverNone}
 use Rattle.curve.proofs.Choices.{fastest-in, fastest-from, fastest-to}
 use Rattle.curve.proofs.Bases.{basis-start, basis-held, basis-printed, basis-place}
 use Rattle.curve.proofs.Promises.{granted-rated}
@@ -52,6 +52,17 @@ tests-printed false true p e = let z = ap basisNumber e in absurd (omega arith)
 tests-printed false false true e = (refl, refl)
 tests-printed false false false e = let z = ap basisNumber e in absurd (omega arith)
 
+tests-between : (a b p : Bool) → a ≡ false → b ≡ false → (byTests a b p ≡ Printed → ⊥) → byTests a b p ≡ Between
+tests-between true b p h l n = absurd (never-both refl h)
+tests-between false true p h l n = absurd (never-both refl l)
+tests-between false false true h l n = absurd (n refl)
+tests-between false false false h l n = refl
+
+tests-within : (a b p : Bool) → byTests a b p ≡ Between → (a ≡ false) × (b ≡ false)
+tests-within true b p e = let z = ap basisNumber e in absurd (omega arith)
+tests-within false true p e = let z = ap basisNumber e in absurd (omega arith)
+tests-within false false p e = (refl, refl)
+
 tests-some : (a b p : Bool) → basisNumber (byTests a b p) ≡ basisNumber None → ⊥
 tests-some true b p e = omega arith
 tests-some false true p e = omega arith
@@ -79,6 +90,18 @@ module _ (ds : List ℕ) (c : Curves) (d : ℕ) where
         eqb-true (getD ds (segment ds d) 0) d (and-left (isPrinted ds d) (not (mixes c)) (p .1)),
         not-true (mixes c) (and-right (isPrinted ds d) (not (mixes c)) (p .1)),
       )
+
+  told-within : basisAt ds c d ≡ Between → (getD ds 0 0 ≤ d) × (d ≤ getD ds (length ds - 1) 0)
+  unfolding basisAt
+  told-within e =
+      let p = tests-within (ltb d (getD ds 0 0)) (ltb (getD ds (length ds - 1) 0) d) (isPrinted ds d && not (mixes c)) e in
+      (ltb-false d (getD ds 0 0) (p .0), ltb-false (getD ds (length ds - 1) 0) d (p .1))
+
+  told-between : getD ds 0 0 ≤ d → d ≤ getD ds (length ds - 1) 0 → (basisAt ds c d ≡ Printed → ⊥) → basisAt ds c d ≡ Between
+  unfolding basisAt
+  told-between from to n =
+      tests-between (ltb d (getD ds 0 0)) (ltb (getD ds (length ds - 1) 0) d) (isPrinted ds d && not (mixes c))
+      (le-ltb d (getD ds 0 0) from) (le-ltb (getD ds (length ds - 1) 0) d to) n
 
   told-some : basisNumber (basisAt ds c d) ≡ basisNumber None → ⊥
   unfolding basisAt
@@ -178,6 +201,17 @@ printed-exactly ds rs ps mode r d g = (
         (basis-printed ds (curvesOf rs mode r) (getD ds (o .place) 0) (depths-rise (g .rules) 0 (o .place) (omega arith) (o .within)) (up-to-last (g .rules) (o .place) (o .within))
         refl e (printed-segment (g .rules) (o .place) (o .within)) refl)
 
+pub between-exactly : BetweenExactly
+between-exactly ds rs ps mode r d g = (
+  λ e.
+      let w = told-within ds (curvesOf rs mode r) d e in (
+        w .0,
+        w .1,
+        λ p. let z = ap basisNumber (sym e ∙ printed-exactly ds rs ps mode r d g .1 p) in omega arith,
+      ),
+  λ w. told-between ds (curvesOf rs mode r) d (w .0) (w .1) (λ e. w .2 (printed-exactly ds rs ps mode r d g .0 e)),
+)
+
 pub printed-stands-in-the-sheet : PrintedStandsInTheSheet
 printed-stands-in-the-sheet ds rs ps mode r d g e =
     let o = of-sheet (g .rules) (curvesOf rs mode r) d e in (
@@ -195,6 +229,7 @@ held-is-the-last ds rs ps mode r d g e =
 pub never-none : NeverNone
 never-none ds rs ps mode r =
     record {
+      any = λ d e. told-some ds (curvesOf rs mode r) d (ap basisNumber e);
       percent = λ d e z.
           let u = percent-granted-exactly ds rs ps mode r d .0 e in
           let f = ap (λ (t : ℕ × ℕ × ℕ × ℕ × ℕ). t .2) (percents-given ds rs ps mode r d (u .0) .on-grid (u .1)) in

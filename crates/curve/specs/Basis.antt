@@ -13,7 +13,7 @@ use Rattle.curve.specs.declared.Basis.{Basis}
 use Rattle.curve.specs.declared.Basis.the-variants.{None, Printed, Between, Start, Held}
 use Rattle.curve.specs.Curve.{segment, curvesOf}
 
--- two curves are mixed: the site rate is above the slower rate. In every pair of `curvesOf` it is below the faster one
+-- two curves are mixed: the site rate is above the slower rate. Below the faster one it is in every pair that an admitted rate has
 abbrev pub mixes : Curves → Bool
 mixes (One j) = false
 mixes (Two j slow fast r) = ltb (slow .0) (r .0)

@@ -16,7 +16,7 @@ use Rattle.curve.specs.declared.Mode.{Mode}
 use Rattle.curve.specs.declared.Mode.the-variants.{Step, Mix}
 use Rattle.curve.specs.declared.Fraction.{Fraction}
 use Rattle.curve.specs.declared.Basis.{Basis}
-use Rattle.curve.specs.declared.Basis.the-variants.{None, Printed, Start, Held}
+use Rattle.curve.specs.declared.Basis.the-variants.{None, Printed, Between, Start, Held}
 use Rattle.curve.specs.Curve.{fastest, exactOf, percentOf, depthReaching}
 use Rattle.curve.specs.Basis.{basisOf, basisNumber}
 use Rattle.curve.specs.Answers.{fastestTaken, percentAnswer, reachOf, given, reachGiven}
@@ -156,11 +156,19 @@ pub record Mixing (rs : List ℕ) (mode : Mode) (r : ℕ) : Type 0 where
   pub above : getD rs place 0 < r
   pub below : r < getD rs (place + 1) 0
 
--- It says printed exactly where the depth is one of the sheet's and no mixing took place.
+-- It says printed exactly where the depth is one of the sheet's and no mixing took place,
+abbrev pub IsPrinted : List ℕ → List ℕ → Mode → ℕ → ℕ → Type 0
+IsPrinted ds rs mode r d = OfSheet ds d × (Mixing rs mode r → ⊥)
+
 abbrev pub PrintedExactly : Type 0
 PrintedExactly =
+    (ds rs ps : List ℕ) (mode : Mode) (r d : ℕ) → Usable ds rs ps r → (basisOf ds rs mode r d ≡ Printed) ↔ IsPrinted ds rs mode r d
+
+-- and between exactly at all else from the first depth to the last.
+abbrev pub BetweenExactly : Type 0
+BetweenExactly =
     (ds rs ps : List ℕ) (mode : Mode) (r d : ℕ) → Usable ds rs ps r
-    → (basisOf ds rs mode r d ≡ Printed) ↔ (OfSheet ds d × (Mixing rs mode r → ⊥))
+    → (basisOf ds rs mode r d ≡ Between) ↔ ((getD ds 0 0 ≤ d) × (d ≤ getD ds (length ds - 1) 0) × (IsPrinted ds rs mode r d → ⊥))
 
 -- Where it says printed, the percent is the sheet's own number at that depth, in the row of the fastest rate not above the site rate.
 abbrev pub PrintedStandsInTheSheet : Type 0
@@ -211,8 +219,9 @@ ReachGrantedExactly =
     (ds rs ps : List ℕ) (mode : Mode) (r target : ℕ)
     → (reachGiven (reachOf ds rs ps mode r target) .0 ≡ granted) ↔ (Usable ds rs ps r × (target ≤ percentOf ds rs ps mode r highestDepth))
 
--- Every percent that is granted has a basis: its number is not that of none.
+-- Every percent has a basis, and the number of the basis that is given back with one is not that of none.
 pub record SaysHow (ds rs ps : List ℕ) (mode : Mode) (r : ℕ) : Type 0 where
+  pub any : (d : ℕ) → basisOf ds rs mode r d ≡ None → ⊥
   pub percent : (d : ℕ) → given (percentAnswer ds rs ps mode r d) .0 ≡ granted → given (percentAnswer ds rs ps mode r d) .2 ≡ basisNumber None → ⊥
   pub reach : (target : ℕ) → reachGiven (reachOf ds rs ps mode r target) .0 ≡ granted
       → reachGiven (reachOf ds rs ps mode r target) .3 ≡ basisNumber None → ⊥
@@ -220,7 +229,7 @@ pub record SaysHow (ds rs ps : List ℕ) (mode : Mode) (r : ℕ) : Type 0 where
 abbrev pub NeverNone : Type 0
 NeverNone = (ds rs ps : List ℕ) (mode : Mode) (r : ℕ) → SaysHow ds rs ps mode r
 
--- the call for a percent at any depth and the call for any target give back this number, list and place, and zeros
+-- the call for a percent at any depth and the call for any target give back this number, list and place, and zeros, of which that of the basis is none's
 pub record BothGive (ds rs ps : List ℕ) (mode : Mode) (r number list place : ℕ) : Type 0 where
   pub percent : (d : ℕ) → given (percentAnswer ds rs ps mode r d) ≡ (number, 0, 0, list, place)
   pub reach : (target : ℕ) → reachGiven (reachOf ds rs ps mode r target) ≡ (number, 0, 0, 0, list, place)

@@ -1,4 +1,4 @@
-// Rules, "Curve sheets": the percent of a sheet at a site rate and a depth.
+// Rules, "Curve sheets" and "How a percent was found": the percent of a sheet at a site rate and a depth, and its basis.
 ghost use Prim.Native.Nat.{_≤_, _<_};
 ghost use mathlib.Core.Path.{_≡_};
 ghost use lib.ListN.{length, getD};
@@ -41,7 +41,7 @@ pub enum Basis {
     None,
     // The depth is one of the sheet's, and nothing was mixed.
     Printed,
-    // Another depth from the first to the last, or a mixture.
+    // Another depth from the first to the last, or one of the sheet's where two curves are mixed.
     Between,
     // Below the first depth.
     Start,

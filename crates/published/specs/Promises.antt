@@ -1,4 +1,4 @@
--- Rules, "Practices covered": what is promised of the published sheets.
+-- Rules, "Practices covered", and of their percents "How a percent was found": what is promised of the published sheets.
 -- Assumes nothing.
 use Prim.Native.Nat.{ℕ, _-_, _≤_, _<_}
 use mathlib.Core.Bool.{true, false}

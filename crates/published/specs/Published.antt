@@ -35,13 +35,13 @@ percentsOf practice nutrient = getD (sheets nutrient) practice ([], []) .1
 abbrev pub isPublished : ℕ → Nutrient → Bool
 isPublished practice nutrient = ltb 0 (length (ratesOf practice nutrient))
 
--- the percent of a published practice: 4, then as for a lent sheet
+-- the percent of a published practice, with its basis: 4, then as for a lent sheet
 abbrev pub percentPublished : ℕ → Nutrient → Mode → ℕ → ℕ → PercentAnswer
 percentPublished practice nutrient mode r d =
     inTurn percent.Refused (percentAnswer depths (ratesOf practice nutrient) (percentsOf practice nutrient) mode r d)
     ((isPublished practice nutrient, NoPublishedSheet) ∷ [])
 
--- the least grid depth whose percent is at least the target: 4, then as for a lent sheet
+-- the least grid depth whose percent is at least the target, with that percent and its basis: 4, then as for a lent sheet
 abbrev pub reachPublished : ℕ → Nutrient → Mode → ℕ → ℕ → Reached
 reachPublished practice nutrient mode r target =
     inTurn reach.Refused (reachOf depths (ratesOf practice nutrient) (percentsOf practice nutrient) mode r target)

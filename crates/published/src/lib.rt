@@ -108,7 +108,7 @@ fn percent_in(
     )
 }
 
-// The percent of a published practice at a site rate and a depth.
+// The percent of a published practice at a site rate and a depth, with its basis.
 pub fn percent(
     practice: u64,
     nutrient: Nutrient,
@@ -155,7 +155,7 @@ fn reach_in(
     )
 }
 
-// The least grid depth of a published practice whose percent is at least the target, with that percent.
+// The least grid depth of a published practice whose percent is at least the target, with that percent and its basis.
 pub fn reach(practice: u64, nutrient: Nutrient, mode: Mode, rate: Rate, target: Percent) -> Reached
     ensures { λ r. ⌜ r ≡ reachPublished practice nutrient mode (rate .0) (target .0) ⌝ }
 {

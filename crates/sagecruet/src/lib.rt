@@ -31,7 +31,7 @@ pub struct Verdict {
     pub place: u64,
 }
 
-// A percent with the number of its basis: 0, or a refusal, 5 with the list and the place.
+// A number given back, the percent and the number of its basis; beside 5 the list and the place.
 #[repr(C)]
 pub struct PercentAnswer {
     pub answer: u64,
@@ -41,7 +41,7 @@ pub struct PercentAnswer {
     pub place: u64,
 }
 
-// A number given back, and the value that was asked for.
+// A number given back, and the rate that was asked for.
 #[repr(C)]
 pub struct Value {
     pub answer: u64,

@@ -36,20 +36,20 @@ pieces₁ c =
 abbrev pieces₂ : lts.After-put-word (basis-number-reads.Asked, basis-number-reads.Learnt, put-reads.Asked, put-reads.Learnt, put-word-reads.Asked, put-word-reads.Learnt) reads.Pre reads.Post → Pieces 2
 pieces₂ c =
     let s = pieces₁ (c .before .before .before .before .before) in
-    let told = word-told (s .0 .args .basis) (c .before .before .before .before .before .before .before .before .basis-number .ensures) in
+    let told = word-told (s .0 .args .basis) (c .before .before .before .before .before .before .before .basis-number .ensures) in
     (s .0, next (s .1) (rw told at (c .put-word .ensures .0)) (rw told at (c .put-word .ensures .1)))
+
+slice-aggregate-key : tie.Need-slice-aggregate-key
+slice-aggregate-key c = search needs
 
 basis-number-requires : tie.Need-basis-number-requires
 basis-number-requires c κs = search needs
 
-slice-aggregate-put : tie.Need-slice-aggregate-put
-slice-aggregate-put c = search needs
-
 slice-relend-prefix-put : tie.Need-slice-relend-prefix-put
 slice-relend-prefix-put c = first-fits (pieces₀ (c .before .before .before) .1 .2)
 
-slice-aggregate-put-2 : tie.Need-slice-aggregate-put-2
-slice-aggregate-put-2 c = first-long (pieces₀ (c .before .before .before .before) .1 .2)
+slice-aggregate-put : tie.Need-slice-aggregate-put
+slice-aggregate-put c = first-long (pieces₀ (c .before .before .before .before) .1 .2)
 
 put-requires : tie.Need-put-requires
 put-requires c κs = search needs
@@ -88,10 +88,10 @@ pub put-basis-spec : {M : Type 1} → statement M
 put-basis-spec =
     tie.close
     (tie.spec
+    slice-aggregate-key
     basis-number-requires
-    slice-aggregate-put
     slice-relend-prefix-put
-    slice-aggregate-put-2
+    slice-aggregate-put
     put-requires
     slice-aggregate-put-word
     sub-put-word
