@@ -70,22 +70,27 @@ tests-some false false true e = omega arith
 tests-some false false false e = omega arith
 
 module _ (ds : List ℕ) (c : Curves) (d : ℕ) where
+  abbrev below : Bool
+  below = ltb d (getD ds 0 0)
+
+  abbrev beyond : Bool
+  beyond = ltb (getD ds (length ds - 1) 0) d
+
+  abbrev printed : Bool
+  printed = isPrinted ds d && not (mixes c)
+
   told-start : basisAt ds c d ≡ Start → d < getD ds 0 0
   unfolding basisAt
-  told-start e =
-      ltb-true d (getD ds 0 0)
-      (tests-start (ltb d (getD ds 0 0)) (ltb (getD ds (length ds - 1) 0) d) (isPrinted ds d && not (mixes c)) e)
+  told-start e = ltb-true d (getD ds 0 0) (tests-start below beyond printed e)
 
   pub told-held : basisAt ds c d ≡ Held → getD ds (length ds - 1) 0 < d
   unfolding basisAt
-  told-held e =
-      ltb-true (getD ds (length ds - 1) 0) d
-      (tests-held (ltb d (getD ds 0 0)) (ltb (getD ds (length ds - 1) 0) d) (isPrinted ds d && not (mixes c)) e)
+  told-held e = ltb-true (getD ds (length ds - 1) 0) d (tests-held below beyond printed e)
 
   told-printed : basisAt ds c d ≡ Printed → (d ≤ getD ds (length ds - 1) 0) × (getD ds (segment ds d) 0 ≡ d) × (mixes c ≡ false)
   unfolding basisAt
   told-printed e =
-      let p = tests-printed (ltb d (getD ds 0 0)) (ltb (getD ds (length ds - 1) 0) d) (isPrinted ds d && not (mixes c)) e in (
+      let p = tests-printed below beyond printed e in (
         ltb-false (getD ds (length ds - 1) 0) d (p .0),
         eqb-true (getD ds (segment ds d) 0) d (and-left (isPrinted ds d) (not (mixes c)) (p .1)),
         not-true (mixes c) (and-right (isPrinted ds d) (not (mixes c)) (p .1)),
@@ -94,18 +99,16 @@ module _ (ds : List ℕ) (c : Curves) (d : ℕ) where
   told-within : basisAt ds c d ≡ Between → (getD ds 0 0 ≤ d) × (d ≤ getD ds (length ds - 1) 0)
   unfolding basisAt
   told-within e =
-      let p = tests-within (ltb d (getD ds 0 0)) (ltb (getD ds (length ds - 1) 0) d) (isPrinted ds d && not (mixes c)) e in
+      let p = tests-within below beyond printed e in
       (ltb-false d (getD ds 0 0) (p .0), ltb-false (getD ds (length ds - 1) 0) d (p .1))
 
   told-between : getD ds 0 0 ≤ d → d ≤ getD ds (length ds - 1) 0 → (basisAt ds c d ≡ Printed → ⊥) → basisAt ds c d ≡ Between
   unfolding basisAt
-  told-between from to n =
-      tests-between (ltb d (getD ds 0 0)) (ltb (getD ds (length ds - 1) 0) d) (isPrinted ds d && not (mixes c))
-      (le-ltb d (getD ds 0 0) from) (le-ltb (getD ds (length ds - 1) 0) d to) n
+  told-between from to n = tests-between below beyond printed (le-ltb d (getD ds 0 0) from) (le-ltb (getD ds (length ds - 1) 0) d to) n
 
   told-some : basisNumber (basisAt ds c d) ≡ basisNumber None → ⊥
   unfolding basisAt
-  told-some e = tests-some (ltb d (getD ds 0 0)) (ltb (getD ds (length ds - 1) 0) d) (isPrinted ds d && not (mixes c)) e
+  told-some e = tests-some below beyond printed e
 
 pub start-exactly : StartExactly
 start-exactly ds rs ps mode r d g = (λ e. told-start ds (curvesOf rs mode r) d e, λ h. sym (basis-start ds (curvesOf rs mode r) d h))
