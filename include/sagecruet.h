@@ -186,8 +186,8 @@ struct sagecruet_verdict sagecruet_sheet(const uint64_t *depths, size_t depths_l
  * percent 0 to the first depth, and from each depth to the next; beyond the last depth it keeps the last percent. With
  * `mix` false the percent is on the curve of the fastest rate that is not above `rate`; with `mix` true it is on the
  * straight line between the curves of the two rates beside it, and from the fastest rate on it is on that one's curve
- * alone. Rates are mixed where `mix` is true and `rate` is strictly between two of the sheet's. The percent is rounded
- * down once, at the end. Refusals, tried in this order:
+ * alone. Rates are mixed where `mix` is true and `rate` is strictly between two neighbouring rates of the sheet. The
+ * percent is rounded down once, at the end. Refusals, tried in this order:
  *
  *   5   the sheet breaks a rule; the list and the place are given as sagecruet_sheet gives them
  *   6   the rate is above 10,000, or it is not 0 on a sheet with the single rate 0

@@ -115,7 +115,7 @@ def percent(sheet, mode, rate, depth):
 
 
 def mixes(sheet, mode, rate):
-    """Mixing means a site rate strictly between two sheet rates in mode mix."""
+    """Mixing means a site rate strictly between two neighbouring sheet rates in mode mix."""
     _, rates, _ = sheet
     return mode == "mix" and any(r < rate for r in rates) and any(r > rate for r in rates) and rate not in rates
 

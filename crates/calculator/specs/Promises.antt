@@ -121,8 +121,8 @@ asking j task amount =
     record { practice = j .practice; nutrient = j .nutrient; mode = j .mode; rate = j .rate; task = task; amount = amount }
 
 -- Demand 3, the volume that is given is credited with at least its target, and every smaller volume with less: where a size job is
--- granted a volume, every text that reads as the same job with task credit and that volume gives the same numbers, a credit of at
--- least the target among them; and with any smaller amount it is granted, with a credit below the target.
+-- granted a volume, every text that reads as the same job with task credit and that volume gives the same, the basis included, with a
+-- credit of at least the target; and with any smaller amount it is granted, with a credit below the target.
 abbrev pub TypedBack : Type 0
 TypedBack =
     (sheet : ℕ → Sheet) (j : Job) (s : Site) (target : ℕ) (asked : List ℕ)
@@ -157,7 +157,7 @@ HigherTargetInTexts =
     → Answered sheet higher .answer ≡ granted
     → Answered sheet lower .volume ≤ Answered sheet higher .volume
 
--- The sample job, jobs/sample.job, and its answer's text
+-- the sample job, jobs/sample.job, and the text of its answer
 abbrev pub sampleJob : List ℕ
 sampleJob =
     bytes
@@ -166,7 +166,7 @@ sampleJob =
 abbrev pub sampleText : List ℕ
 sampleText = bytes "answer=0\nload=1568350\ndepth=0\ncredit=0\nbasis=none\nvolume=0\nremoved=0\n"
 
--- From the bytes of the job to those of its answer,
+-- The sample job is answered so, from its bytes to the bytes of its answer,
 abbrev pub SampleAnswered : Type 0
 SampleAnswered = answerText (outcomeOf byTables sampleJob) ≡ sampleText
 

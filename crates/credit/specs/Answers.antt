@@ -65,7 +65,7 @@ bySheet (published practice) wanted n parts mode r =
 unfoldable pub answerOf : Sheet → Wanted → Nutrient → Site → Mode → ℕ → CreditAnswer
 answerOf sheet wanted n s mode r = afterJudging Refused (λ total. bySheet sheet wanted n (partsOf s) mode r) (judged s)
 
--- The rules' number and values: zeros for a refusal, with no basis, but for the list and place of 5.
+-- The rules' number and values: for a refusal zeros, but for the list and place of 5, and no basis.
 pub record Given : Type 0 where
   pub answer : ℕ
   pub list : ℕ

@@ -42,14 +42,14 @@ tried load impervious volumeAt inRange last =
     ∷ (leb (volumeAt highestDepth) largest, PastLargest)
     ∷ last
 
--- Crediting: depth of the volume, then the percent.
+-- Crediting: depth of the volume, then the percent and its basis.
 unfoldable pub creditBy : ℕ → ℕ → (ℕ → ℕ) → (ℕ → ℕ) → (ℕ → Basis) → ℕ → CreditAnswer
 creditBy load impervious volumeAt percentAt basisAt v =
     let d = depthWithin volumeAt v in
     inTurn Refused (Granted (figuresOf load d (percentAt d) (basisAt d) v))
     (tried load impervious volumeAt (leb v largest) [])
 
--- Sizing: the least grid depth whose percent is at least the target, then V. Last comes 10: a target above the percent at depth 200.
+-- Sizing: the least grid depth whose percent is at least the target, with that percent and its basis, then V. Last comes 10: a target above the percent at depth 200.
 unfoldable pub sizeBy : ℕ → ℕ → (ℕ → ℕ) → (ℕ → ℕ) → (ℕ → Basis) → ℕ → CreditAnswer
 sizeBy load impervious volumeAt percentAt basisAt target =
     let d = depthReaching percentAt target in

@@ -89,7 +89,7 @@ SizeGrantedExactly =
     → (Sized sheet n s mode r target .answer ≡ granted)
     ↔ (Accepted sheet n s r × (target ≤ mostPercent) × (target ≤ percentOn sheet n mode r highestDepth))
 
--- whatever is wanted is refused with this number, list and place, and zeros
+-- whatever is wanted is refused with this number, list and place, zeros, and no basis
 abbrev pub AllGive : Sheet → Nutrient → Site → Mode → ℕ → ℕ → ℕ → ℕ → Type 0
 AllGive sheet n s mode r number list place = (wanted : Wanted) → given (answerOf sheet wanted n s mode r) ≡ refusedWith number list place
 
@@ -120,7 +120,8 @@ pub record Refusals (sheet : Sheet) (n : Nutrient) (s : Site) (mode : Mode) (r :
 abbrev pub RefusedInOrder : Type 0
 RefusedInOrder = (sheet : Sheet) (n : Nutrient) (s : Site) (mode : Mode) (r : ℕ) → Refusals sheet n s mode r
 
--- Demand 2, from volume to credit: the load, the credit and the removed load are those of document 001's tables and equations.
+-- Demand 2, from volume to credit: the load, the credit and the removed load are those of document 001's tables and equations, and the
+-- basis is that of the sheet at the depth of the volume.
 abbrev pub CreditIsByTheTables : Type 0
 CreditIsByTheTables =
     (sheet : Sheet) (n : Nutrient) (s : Site) (mode : Mode) (r v : ℕ)
@@ -132,7 +133,7 @@ CreditIsByTheTables =
     × (Credited sheet n s mode r v .volume ≡ v)
     × (Credited sheet n s mode r v .removed ≡ removedOf (Credited sheet n s mode r v .load) (Credited sheet n s mode r v .percent))
 
--- Demand 2, from target to volume: the depth is the least grid depth whose percent is at least the target.
+-- Demand 2, from target to volume: the depth is the least grid depth whose percent is at least the target, with its percent and basis.
 abbrev pub SizeIsByTheTables : Type 0
 SizeIsByTheTables =
     (sheet : Sheet) (n : Nutrient) (s : Site) (mode : Mode) (r target : ℕ)

@@ -156,19 +156,20 @@ pub record Mixing (rs : List ℕ) (mode : Mode) (r : ℕ) : Type 0 where
   pub above : getD rs place 0 < r
   pub below : r < getD rs (place + 1) 0
 
--- It says printed exactly where the depth is one of the sheet's and no mixing took place,
-abbrev pub IsPrinted : List ℕ → List ℕ → Mode → ℕ → ℕ → Type 0
-IsPrinted ds rs mode r d = OfSheet ds d × (Mixing rs mode r → ⊥)
+-- the depth is one of the sheet's, and no mixing takes place
+abbrev pub AsPrinted : List ℕ → List ℕ → Mode → ℕ → ℕ → Type 0
+AsPrinted ds rs mode r d = OfSheet ds d × (Mixing rs mode r → ⊥)
 
+-- It says printed exactly where that is so,
 abbrev pub PrintedExactly : Type 0
 PrintedExactly =
-    (ds rs ps : List ℕ) (mode : Mode) (r d : ℕ) → Usable ds rs ps r → (basisOf ds rs mode r d ≡ Printed) ↔ IsPrinted ds rs mode r d
+    (ds rs ps : List ℕ) (mode : Mode) (r d : ℕ) → Usable ds rs ps r → (basisOf ds rs mode r d ≡ Printed) ↔ AsPrinted ds rs mode r d
 
 -- and between exactly at all else from the first depth to the last.
 abbrev pub BetweenExactly : Type 0
 BetweenExactly =
     (ds rs ps : List ℕ) (mode : Mode) (r d : ℕ) → Usable ds rs ps r
-    → (basisOf ds rs mode r d ≡ Between) ↔ ((getD ds 0 0 ≤ d) × (d ≤ getD ds (length ds - 1) 0) × (IsPrinted ds rs mode r d → ⊥))
+    → (basisOf ds rs mode r d ≡ Between) ↔ ((getD ds 0 0 ≤ d) × (d ≤ getD ds (length ds - 1) 0) × (AsPrinted ds rs mode r d → ⊥))
 
 -- Where it says printed, the percent is the sheet's own number at that depth, in the row of the fastest rate not above the site rate.
 abbrev pub PrintedStandsInTheSheet : Type 0
