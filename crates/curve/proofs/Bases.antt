@@ -3,19 +3,17 @@
 use Prim.Native.Nat.{ℕ, _-_, _≤_, _<_}
 use mathlib.Core.Bool.{Bool, true, false, cond, _&&_, not}
 use mathlib.Core.List.{List}
-use mathlib.Core.Path.{_≡_, refl, sym, _∙_, ap}
-use native.Mathlib.Omega.{arith}
-use lib.Dec.{ltb, eqb}
+use mathlib.Core.Path.{_≡_, sym, _∙_}
+use lib.Dec.{ltb}
 use lib.ListN.{length, getD}
 use borrow.Author.Tests.{lt-ltb, le-ltb, eq-eqb, ne-eqb}
 use Rattle.laws.proofs.And.{and-false}
 use Rattle.units.specs.declared.Rate.{Rate}
 use Rattle.curve.specs.declared.Curves.{Curves}
 use Rattle.curve.specs.declared.Curves.the-variants.{Two}
-use Rattle.curve.specs.declared.Basis.{Basis}
-use Rattle.curve.specs.declared.Basis.the-variants.{None, Printed, Between, Start, Held}
+use Rattle.curve.specs.declared.Basis.the-variants.{Printed, Between, Start, Held}
 use Rattle.curve.specs.Curve.{segment}
-use Rattle.curve.specs.Basis.{mixes, isPrinted, basisAt, basisNumber}
+use Rattle.curve.specs.Basis.{mixes, isPrinted, basisAt}
 use Rattle.curve.proofs.Segments.{segment-in}
 
 -- A match on the curves.
@@ -34,7 +32,7 @@ module _ (ds : List ℕ) (c : Curves) (d : ℕ) where
     basis-held h = simp (le-ltb d (getD ds 0 0) from, lt-ltb (getD ds (length ds - 1) 0) d h)
 
     module _ (to : d ≤ getD ds (length ds - 1) 0) where
-      within : basisAt ds c d ≡ cond (isPrinted ds d && not (mixes c)) Printed Between
+      pub within : basisAt ds c d ≡ cond (isPrinted ds d && not (mixes c)) Printed Between
       unfolding basisAt
       within = simp (le-ltb d (getD ds 0 0) from, le-ltb (getD ds (length ds - 1) 0) d to)
 

@@ -4,28 +4,25 @@ use Prim.Native.Nat.{ℕ, _+_, _-_, _≤_, _<_}
 use mathlib.Core.Bool.{Bool, true, false, cond, _&&_, not}
 use mathlib.Core.List.{List}
 use mathlib.Core.Logic.{⊎-elim}
-use mathlib.Core.Path.{_≡_, refl, sym, _∙_, ap}
+use mathlib.Core.Path.{_≡_, refl, sym, _∙_, ap, subst}
 use native.Mathlib.Omega.{arith}
-use lib.Dec.{ltb, eqb}
+use lib.Dec.{ltb}
 use lib.ListN.{length, getD}
 use borrow.Author.Tests.{ltb-true, ltb-false, lt-ltb, le-ltb, eqb-true, not-true}
 use Rattle.laws.proofs.And.{and-left, and-right}
 use Rattle.laws.proofs.Order.{lt-or-le, passes-or-fails, never-both}
-use Rattle.refusal.specs.Refusal.{granted}
-use Rattle.units.specs.Limits.{highestDepth}
 use Rattle.sheet.specs.Rules.{Rules}
 use Rattle.curve.specs.declared.Mode.{Mode}
 use Rattle.curve.specs.declared.Mode.the-variants.{Step, Mix}
 use Rattle.curve.specs.declared.Curves.{Curves}
-use Rattle.curve.specs.declared.Curves.the-variants.{One, Two}
+use Rattle.curve.specs.declared.Curves.the-variants.{One}
 use Rattle.curve.specs.declared.Basis.{Basis}
 use Rattle.curve.specs.declared.Basis.the-variants.{None, Printed, Between, Start, Held}
 use Rattle.curve.specs.Curve.{segment, fastest, curvesOf, roundedDown, percentAt, percentOf}
 use Rattle.curve.specs.Basis.{mixes, isPrinted, basisAt, basisOf, basisNumber}
-use Rattle.curve.specs.Answers.{percentAnswer, reachOf, given, reachGiven}
-use Rattle.curve.specs.Promises.{Usable, StartExactly, HeldExactly, OfSheet, Mixing, PrintedExactly, BetweenExactly, printedAt, PrintedStandsInTheSheet, HeldIsTheLast, NeverNone}
+use Rattle.curve.specs.Promises.{Usable, StartExactly, HeldExactly, OfSheet, Mixing, PrintedExactly, BetweenExactly, PrintedStandsInTheSheet, HeldIsTheLast, NeverNone}
 use Rattle.curve.proofs.Choices.{fastest-in, fastest-from, fastest-to}
-use Rattle.curve.proofs.Bases.{basis-start, basis-held, basis-printed, basis-place}
+use Rattle.curve.proofs.Bases.{basis-start, basis-held, within, basis-printed, basis-place}
 use Rattle.curve.proofs.Promises.{granted-rated}
 use Rattle.curve.proofs.Granting.{percents-given, percent-granted-exactly, depths-given, reach-granted-exactly}
 use Rattle.curve.proofs.Sentences.{depths-rise, up-to-last, printed-segment, printed-rate, printed-depth, exact-beyond, rates-rise}
@@ -34,40 +31,18 @@ use Rattle.curve.proofs.Sentences.{depths-rise, up-to-last, printed-seg
 abbrev byTests : Bool → Bool → Bool → Basis
 byTests below beyond printed = cond below Start (cond beyond Held (cond printed Printed Between))
 
-tests-start : (a b p : Bool) → byTests a b p ≡ Start → a ≡ true
-tests-start true b p e = refl
-tests-start false true p e = let z = ap basisNumber e in absurd (omega arith)
-tests-start false false true e = let z = ap basisNumber e in absurd (omega arith)
-tests-start false false false e = let z = ap basisNumber e in absurd (omega arith)
+abbrev Told : Bool → Bool → Bool → Basis → Type 0
+Told below beyond printed None = ⊥
+Told below beyond printed Printed = (beyond ≡ false) × (printed ≡ true)
+Told below beyond printed Between = (below ≡ false) × (beyond ≡ false)
+Told below beyond printed Start = below ≡ true
+Told below beyond printed Held = beyond ≡ true
 
-tests-held : (a b p : Bool) → byTests a b p ≡ Held → b ≡ true
-tests-held true b p e = let z = ap basisNumber e in absurd (omega arith)
-tests-held false true p e = refl
-tests-held false false true e = let z = ap basisNumber e in absurd (omega arith)
-tests-held false false false e = let z = ap basisNumber e in absurd (omega arith)
-
-tests-printed : (a b p : Bool) → byTests a b p ≡ Printed → (b ≡ false) × (p ≡ true)
-tests-printed true b p e = let z = ap basisNumber e in absurd (omega arith)
-tests-printed false true p e = let z = ap basisNumber e in absurd (omega arith)
-tests-printed false false true e = (refl, refl)
-tests-printed false false false e = let z = ap basisNumber e in absurd (omega arith)
-
-tests-between : (a b p : Bool) → a ≡ false → b ≡ false → (byTests a b p ≡ Printed → ⊥) → byTests a b p ≡ Between
-tests-between true b p h l n = absurd (never-both refl h)
-tests-between false true p h l n = absurd (never-both refl l)
-tests-between false false true h l n = absurd (n refl)
-tests-between false false false h l n = refl
-
-tests-within : (a b p : Bool) → byTests a b p ≡ Between → (a ≡ false) × (b ≡ false)
-tests-within true b p e = let z = ap basisNumber e in absurd (omega arith)
-tests-within false true p e = let z = ap basisNumber e in absurd (omega arith)
-tests-within false false p e = (refl, refl)
-
-tests-some : (a b p : Bool) → basisNumber (byTests a b p) ≡ basisNumber None → ⊥
-tests-some true b p e = omega arith
-tests-some false true p e = omega arith
-tests-some false false true e = omega arith
-tests-some false false false e = omega arith
+tests-tell : (a b p : Bool) → Told a b p (byTests a b p)
+tests-tell true b p = refl
+tests-tell false true p = refl
+tests-tell false false true = (refl, refl)
+tests-tell false false false = (refl, refl)
 
 module _ (ds : List ℕ) (c : Curves) (d : ℕ) where
   abbrev below : Bool
@@ -79,36 +54,34 @@ module _ (ds : List ℕ) (c : Curves) (d : ℕ) where
   abbrev printed : Bool
   printed = isPrinted ds d && not (mixes c)
 
-  told-start : basisAt ds c d ≡ Start → d < getD ds 0 0
+  tells : (b : Basis) → basisAt ds c d ≡ b → Told below beyond printed b
   unfolding basisAt
-  told-start e = ltb-true d (getD ds 0 0) (tests-start below beyond printed e)
+  tells b e = subst (Told below beyond printed) e (tests-tell below beyond printed)
+
+  told-start : basisAt ds c d ≡ Start → d < getD ds 0 0
+  told-start e = ltb-true d (getD ds 0 0) (tells Start e)
 
   pub told-held : basisAt ds c d ≡ Held → getD ds (length ds - 1) 0 < d
-  unfolding basisAt
-  told-held e = ltb-true (getD ds (length ds - 1) 0) d (tests-held below beyond printed e)
+  told-held e = ltb-true (getD ds (length ds - 1) 0) d (tells Held e)
 
   told-printed : basisAt ds c d ≡ Printed → (d ≤ getD ds (length ds - 1) 0) × (getD ds (segment ds d) 0 ≡ d) × (mixes c ≡ false)
-  unfolding basisAt
   told-printed e =
-      let p = tests-printed below beyond printed e in (
+      let p = tells Printed e in (
         ltb-false (getD ds (length ds - 1) 0) d (p .0),
         eqb-true (getD ds (segment ds d) 0) d (and-left (isPrinted ds d) (not (mixes c)) (p .1)),
         not-true (mixes c) (and-right (isPrinted ds d) (not (mixes c)) (p .1)),
       )
 
   told-within : basisAt ds c d ≡ Between → (getD ds 0 0 ≤ d) × (d ≤ getD ds (length ds - 1) 0)
-  unfolding basisAt
   told-within e =
-      let p = tests-within below beyond printed e in
+      let p = tells Between e in
       (ltb-false d (getD ds 0 0) (p .0), ltb-false (getD ds (length ds - 1) 0) d (p .1))
 
+  -- From the first depth to the last it is printed or between.
   told-between : getD ds 0 0 ≤ d → d ≤ getD ds (length ds - 1) 0 → (basisAt ds c d ≡ Printed → ⊥) → basisAt ds c d ≡ Between
-  unfolding basisAt
-  told-between from to n = tests-between below beyond printed (le-ltb d (getD ds 0 0) from) (le-ltb (getD ds (length ds - 1) 0) d to) n
-
-  told-some : basisNumber (basisAt ds c d) ≡ basisNumber None → ⊥
-  unfolding basisAt
-  told-some e = tests-some below beyond printed e
+  told-between from to n =
+      ⊎-elim (λ (e : printed ≡ true). absurd (n (within ds c d from to ∙ rw e))) (λ (e : printed ≡ false). within ds c d from to ∙ rw e)
+      (passes-or-fails printed)
 
 pub start-exactly : StartExactly
 start-exactly ds rs ps mode r d g = (λ e. told-start ds (curvesOf rs mode r) d e, λ h. sym (basis-start ds (curvesOf rs mode r) d h))
@@ -229,17 +202,25 @@ held-is-the-last ds rs ps mode r d g e =
     let h = told-held ds (curvesOf rs mode r) d e in
     ap roundedDown (exact-beyond ds ps (curvesOf rs mode r) d (omega arith))
 
+-- Only none has the number of none.
+numbered : (b : Basis) → (b ≡ None → ⊥) → basisNumber b ≡ basisNumber None → ⊥
+numbered None n e = n refl
+numbered Printed n e = omega arith
+numbered Between n e = omega arith
+numbered Start n e = omega arith
+numbered Held n e = omega arith
+
 pub never-none : NeverNone
 never-none ds rs ps mode r =
     record {
-      any = λ d e. told-some ds (curvesOf rs mode r) d (ap basisNumber e);
+      any = λ d e. tells ds (curvesOf rs mode r) d None e;
       percent = λ d e z.
           let u = percent-granted-exactly ds rs ps mode r d .0 e in
           let f = ap (λ (t : ℕ × ℕ × ℕ × ℕ × ℕ). t .2) (percents-given ds rs ps mode r d (u .0) .on-grid (u .1)) in
-          told-some ds (curvesOf rs mode r) d (sym f ∙ z);
+          numbered (basisOf ds rs mode r d) (tells ds (curvesOf rs mode r) d None) (sym f ∙ z);
       reach = λ target e z.
           let u = reach-granted-exactly ds rs ps mode r target .0 e in
           let l = depths-given ds rs ps mode r target (u .0) .found (u .1) in
           let f = ap (λ (t : ℕ × ℕ × ℕ × ℕ × ℕ × ℕ). t .3) (l .are) in
-          told-some ds (curvesOf rs mode r) (l .depth) (sym f ∙ z);
+          numbered (basisOf ds rs mode r (l .depth)) (tells ds (curvesOf rs mode r) (l .depth) None) (sym f ∙ z);
     }

@@ -2,7 +2,7 @@
 -- crates/credit/specs/Numbers.antt.
 -- Assumes nothing.
 use Prim.Native.Nat.{ℕ}
-use mathlib.Core.List.{List, [], _∷_}
+use mathlib.Core.List.{[], _∷_}
 use mathlib.Core.Path.{_≡_, refl}
 use Rattle.laws.specs.First.{firstFrom}
 use Rattle.sheet.specs.Sheet.{previous, inStep, lengthsFit, withoutRates, offendingRate, verdictOf}
