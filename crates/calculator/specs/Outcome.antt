@@ -14,7 +14,7 @@ use Rattle.credit.specs.declared.CreditAnswer.{CreditAnswer}
 use Rattle.credit.specs.declared.CreditAnswer.the-variants as credit
 use Rattle.curve.specs.declared.Basis.the-variants.{None}
 use Rattle.credit.specs.Credit.{figures}
-use Rattle.credit.specs.Answers.{Sheet, lent, published, answerOf, credit as creditOf, size as sizeOf}
+use Rattle.credit.specs.Answers.{Sheet, lent, published, Answering, answerOf, credit as creditOf, size as sizeOf}
 use Rattle.job.specs.declared.Job.{Job}
 use Rattle.job.specs.declared.Task.{Task}
 use Rattle.job.specs.declared.Task.the-variants as task
@@ -43,10 +43,14 @@ unfoldable pub ofLoadJob : Job → Site → Outcome
 ofLoadJob j s = inTurn outsideLines (ofLoad (loadAnswer (j .nutrient) s)) ((eqb (j .amount) 0, AmountOutOfRange) ∷ [])
 
 -- Amount is 0 for load, a volume for credit, a target percent for size.
+abbrev pub ofTaskBy : Answering → Task → Sheet → Job → Site → Outcome
+ofTaskBy answer task.Load sheet j s = ofLoadJob j s
+ofTaskBy answer task.Credit sheet j s = ofCredit (answer sheet (creditOf (j .amount)) (j .nutrient) s (j .mode) (j .rate .0))
+ofTaskBy answer task.Size sheet j s = ofCredit (answer sheet (sizeOf (j .amount)) (j .nutrient) s (j .mode) (j .rate .0))
+
+-- the same by the rules
 abbrev pub ofTask : Task → Sheet → Job → Site → Outcome
-ofTask task.Load sheet j s = ofLoadJob j s
-ofTask task.Credit sheet j s = ofCredit (answerOf sheet (creditOf (j .amount)) (j .nutrient) s (j .mode) (j .rate .0))
-ofTask task.Size sheet j s = ofCredit (answerOf sheet (sizeOf (j .amount)) (j .nutrient) s (j .mode) (j .rate .0))
+ofTask = ofTaskBy answerOf
 
 -- the sheet of a practice number: the published one, or a lent sheet in the place of them all
 abbrev pub byTables : ℕ → Sheet
@@ -56,9 +60,14 @@ abbrev pub byLent : List ℕ → List ℕ → List ℕ → ℕ → Sheet
 byLent ds rs ps practice = lent ds rs ps
 
 -- a text that does not read is refused with its line; a job that reads is worked out
-abbrev pub ofReading : (ℕ → Sheet) → Site → JobAnswer → Outcome
-ofReading sheet s (job.Granted j) = ofTask (j .task) (sheet (j .practice)) j s
-ofReading sheet s (job.Refused why line) = Refused why line
+abbrev pub ofReading : Answering → (ℕ → Sheet) → Site → JobAnswer → Outcome
+ofReading answer sheet s (job.Granted j) = ofTaskBy answer (j .task) (sheet (j .practice)) j s
+ofReading answer sheet s (job.Refused why line) = Refused why line
 
+-- the outcome of a job text, a credit or a size of it answered as is given
+abbrev pub outcomeBy : Answering → (ℕ → Sheet) → List ℕ → Outcome
+outcomeBy answer sheet text = ofReading answer sheet (readingOf text .site) (readingOf text .answer)
+
+-- the outcome of a job text, by the rules
 unfoldable pub outcomeOf : (ℕ → Sheet) → List ℕ → Outcome
-outcomeOf sheet text = ofReading sheet (readingOf text .site) (readingOf text .answer)
+outcomeOf sheet text = outcomeBy answerOf sheet text

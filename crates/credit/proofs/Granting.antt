@@ -16,6 +16,7 @@ use Rattle.site.specs.Parts.{partsOf, totalArea}
 use Rattle.site.specs.Judging.{judged, afterJudging, given as areaGiven}
 use Rattle.site.proofs.Judging.{has-judged}
 use Rattle.site.proofs.Promises.{fine-exactly}
+use Rattle.volume.specs.Volume.{volumeOf}
 use Rattle.volume.proofs.Promises.{fits}
 use Rattle.curve.specs.declared.Mode.{Mode}
 use Rattle.curve.specs.Promises.{Usable}
@@ -33,10 +34,10 @@ use Rattle.credit.proofs.Opening.{sheet-admitted, onPercents, Open, gra
 
 -- A granted answer has a sheet,
 sheet-there : (sheet : Sheet) (wanted : Wanted) (n : Nutrient) (parts : List SubArea) (mode : Mode) (r : ℕ)
-    → given (bySheet sheet wanted n parts mode r) .answer ≡ granted → isThere sheet n ≡ true
+    → given (bySheet volumeOf sheet wanted n parts mode r) .answer ≡ granted → isThere sheet n ≡ true
 sheet-there (lent ds rs ps) wanted n parts mode r g = refl
 sheet-there (published practice) wanted n parts mode r g =
-    granted-pass (onParts wanted n parts depths (ratesOf practice n) (percentsOf practice n) mode r) ((isPublished practice n, NoPublishedSheet) ∷ []) g .0 .0
+    granted-pass (onParts volumeOf wanted n parts depths (ratesOf practice n) (percentsOf practice n) mode r) ((isPublished practice n, NoPublishedSheet) ∷ []) g .0 .0
 
 -- and all is accepted.
 accepted : (sheet : Sheet) (wanted : Wanted) (n : Nutrient) (s : Site) (mode : Mode) (r : ℕ)
@@ -45,7 +46,7 @@ unfolding answerOf
 accepted sheet wanted n s mode r granting = told (judged s) refl granting
   where
     told : (x : AreaAnswer) → judged s ≡ x
-        → given (afterJudging Refused (λ total. bySheet sheet wanted n (partsOf s) mode r) x) .answer ≡ granted
+        → given (afterJudging Refused (λ total. bySheet volumeOf sheet wanted n (partsOf s) mode r) x) .answer ≡ granted
         → Accepted sheet n s r
     told (area.Granted total) j g =
         let o : Open sheet n s mode r = granted-opens wanted granting in
@@ -63,7 +64,7 @@ accepted sheet wanted n s mode r granting = told (judged s) refl granting
 -- Where a sheet is there and accepted, its percents decide.
 pub sheet-works : (sheet : Sheet) (wanted : Wanted) (n : Nutrient) (parts : List SubArea) (mode : Mode) (r : ℕ)
     → isThere sheet n ≡ true → Usable (depthsIn sheet) (ratesIn sheet n) (percentsIn sheet n) r
-    → bySheet sheet wanted n parts mode r ≡ onPercents wanted n parts (percentOn sheet n mode r) (basisOn sheet n mode r)
+    → bySheet volumeOf sheet wanted n parts mode r ≡ onPercents wanted n parts (percentOn sheet n mode r) (basisOn sheet n mode r)
 unfolding onSheet
 sheet-works (lent ds rs ps) wanted n parts mode r t p = rw (sheet-admitted ds rs ps mode r p)
 sheet-works (published practice) wanted n parts mode r t p =

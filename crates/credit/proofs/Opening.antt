@@ -90,21 +90,21 @@ pub record Open (sheet : Sheet) (n : Nutrient) (s : Site) (mode : Mode) (r : ℕ
 
 module _ (n : Nutrient) (parts : List SubArea) (mode : Mode) (r : ℕ) where
   -- What is wanted has no part in the tests of a sheet.
-  lists-open : (ds rs ps : List ℕ) (wanted : Wanted) → given (onParts wanted n parts ds rs ps mode r) .answer ≡ granted
-      → curve.Usable ds rs ps r × ((other : Wanted) → onParts other n parts ds rs ps mode r ≡ onPercents other n parts (percentOf ds rs ps mode r) (basisOf ds rs mode r))
+  lists-open : (ds rs ps : List ℕ) (wanted : Wanted) → given (onParts volumeOf wanted n parts ds rs ps mode r) .answer ≡ granted
+      → curve.Usable ds rs ps r × ((other : Wanted) → onParts volumeOf other n parts ds rs ps mode r ≡ onPercents other n parts (percentOf ds rs ps mode r) (basisOf ds rs mode r))
   unfolding onSheet
   lists-open ds rs ps wanted g =
       let p = sheet-passed ds rs ps mode r _ g in
       (p, λ other. rw (sheet-admitted ds rs ps mode r p))
 
-  sheet-opens : (sheet : Sheet) (wanted : Wanted) → given (bySheet sheet wanted n parts mode r) .answer ≡ granted
+  sheet-opens : (sheet : Sheet) (wanted : Wanted) → given (bySheet volumeOf sheet wanted n parts mode r) .answer ≡ granted
       → curve.Usable (depthsIn sheet) (ratesIn sheet n) (percentsIn sheet n) r
-      × ((other : Wanted) → bySheet sheet other n parts mode r ≡ onPercents other n parts (percentOn sheet n mode r) (basisOn sheet n mode r))
+      × ((other : Wanted) → bySheet volumeOf sheet other n parts mode r ≡ onPercents other n parts (percentOn sheet n mode r) (basisOn sheet n mode r))
   sheet-opens (lent ds rs ps) wanted g = lists-open ds rs ps wanted g
   sheet-opens (published practice) wanted g =
       let rs = ratesOf practice n in
       let ps = percentsOf practice n in
-      let p = granted-pass (onParts wanted n parts depths rs ps mode r) ((isPublished practice n, NoPublishedSheet) ∷ []) g in
+      let p = granted-pass (onParts volumeOf wanted n parts depths rs ps mode r) ((isPublished practice n, NoPublishedSheet) ∷ []) g in
       let l = lists-open depths rs ps wanted (p .1) in
       (l .0, λ other. simp (p .0 .0) (l .1 other))
 
@@ -120,7 +120,7 @@ module _ {sheet : Sheet} {n : Nutrient} {s : Site} {mode : Mode} {r : ℕ} where
   granted-opens wanted = told (judged s) refl
     where
       told : (x : AreaAnswer) → judged s ≡ x
-          → given (afterJudging Refused (λ total. bySheet sheet wanted n (partsOf s) mode r) x) .answer ≡ granted
+          → given (afterJudging Refused (λ total. bySheet volumeOf sheet wanted n (partsOf s) mode r) x) .answer ≡ granted
           → Open sheet n s mode r
       told (area.Granted total) j g =
           let p = sheet-opens n (partsOf s) mode r sheet wanted g in

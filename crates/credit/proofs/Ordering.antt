@@ -18,6 +18,7 @@ use Rattle.site.specs.declared.AreaAnswer.{AreaAnswer}
 use Rattle.site.specs.declared.AreaAnswer.the-variants as area
 use Rattle.site.specs.Parts.{partsOf, imperviousArea}
 use Rattle.site.specs.Judging.{judged, afterJudging, given as areaGiven}
+use Rattle.volume.specs.Volume.{volumeOf}
 use Rattle.curve.specs.declared.Mode.{Mode}
 use Rattle.curve.specs.declared.Basis.{Basis}
 use Rattle.curve.specs.declared.Admission.the-variants as admission
@@ -52,7 +53,7 @@ module _ (load impervious : ℕ) (volumeAt percents : ℕ → ℕ) (bases : ℕ 
 -- A record's refusal is the answer's; a record that is judged fine goes on to its sheet,
 module _ (sheet : Sheet) (n : Nutrient) (s : Site) (mode : Mode) (r : ℕ) (wanted : Wanted) where
   abbrev after : AreaAnswer → CreditAnswer
-  after x = afterJudging Refused (λ total. bySheet sheet wanted n (partsOf s) mode r) x
+  after x = afterJudging Refused (λ total. bySheet volumeOf sheet wanted n (partsOf s) mode r) x
 
   record-refused : (x : AreaAnswer) → (areaGiven x .0 ≡ granted → ⊥) → given (after x) ≡ refusedWith (areaGiven x .0) 0 0
   record-refused (area.Granted total) h = absurd (h refl)
@@ -62,39 +63,39 @@ module _ (sheet : Sheet) (n : Nutrient) (s : Site) (mode : Mode) (r : ℕ) (want
   unfolding answerOf
   refused-first h = record-refused (judged s) h
 
-  record-fine : (x : AreaAnswer) → areaGiven x .0 ≡ granted → after x ≡ bySheet sheet wanted n (partsOf s) mode r
+  record-fine : (x : AreaAnswer) → areaGiven x .0 ≡ granted → after x ≡ bySheet volumeOf sheet wanted n (partsOf s) mode r
   record-fine (area.Granted total) h = refl
   record-fine (area.Refused why) h = absurd (refusal-not-granted why h)
 
-  goes-to-sheet : areaGiven (judged s) .0 ≡ granted → answerOf sheet wanted n s mode r ≡ bySheet sheet wanted n (partsOf s) mode r
+  goes-to-sheet : areaGiven (judged s) .0 ≡ granted → answerOf sheet wanted n s mode r ≡ bySheet volumeOf sheet wanted n (partsOf s) mode r
   unfolding answerOf
   goes-to-sheet h = record-fine (judged s) h
 
 module _ (n : Nutrient) (parts : List SubArea) (mode : Mode) (r : ℕ) (wanted : Wanted) where
   -- which is not there,
-  sheet-missing : (sheet : Sheet) → isThere sheet n ≡ false → bySheet sheet wanted n parts mode r ≡ Refused NoPublishedSheet
+  sheet-missing : (sheet : Sheet) → isThere sheet n ≡ false → bySheet volumeOf sheet wanted n parts mode r ≡ Refused NoPublishedSheet
   sheet-missing (lent ds rs ps) e = absurd (never-both refl e)
   sheet-missing (published practice) e = rw e
 
   -- or is,
   sheet-is : (sheet : Sheet) → isThere sheet n ≡ true
-      → bySheet sheet wanted n parts mode r ≡ onParts wanted n parts (depthsIn sheet) (ratesIn sheet n) (percentsIn sheet n) mode r
+      → bySheet volumeOf sheet wanted n parts mode r ≡ onParts volumeOf wanted n parts (depthsIn sheet) (ratesIn sheet n) (percentsIn sheet n) mode r
   sheet-is (lent ds rs ps) e = refl
   sheet-is (published practice) e = rw e
 
   -- and whose refusal is the answer's.
   module _ (ds rs ps : List ℕ) where
-    parts-bad : (list place : ℕ) → admissionOf ds rs ps mode r ≡ admission.BadSheet list place → onParts wanted n parts ds rs ps mode r ≡ BadSheet list place
+    parts-bad : (list place : ℕ) → admissionOf ds rs ps mode r ≡ admission.BadSheet list place → onParts volumeOf wanted n parts ds rs ps mode r ≡ BadSheet list place
     unfolding onSheet
     parts-bad list place e = rw e
 
-    parts-refused : (why : Refusal) → admissionOf ds rs ps mode r ≡ admission.Refused why → onParts wanted n parts ds rs ps mode r ≡ Refused why
+    parts-refused : (why : Refusal) → admissionOf ds rs ps mode r ≡ admission.Refused why → onParts volumeOf wanted n parts ds rs ps mode r ≡ Refused why
     unfolding onSheet
     parts-refused why e = rw e
 
 -- A record that is judged fine and a sheet that is there: the sheet decides.
 begun-is : (sheet : Sheet) (n : Nutrient) (s : Site) (mode : Mode) (r : ℕ) (wanted : Wanted) → Begun sheet n s
-    → answerOf sheet wanted n s mode r ≡ onParts wanted n (partsOf s) (depthsIn sheet) (ratesIn sheet n) (percentsIn sheet n) mode r
+    → answerOf sheet wanted n s mode r ≡ onParts volumeOf wanted n (partsOf s) (depthsIn sheet) (ratesIn sheet n) (percentsIn sheet n) mode r
 begun-is sheet n s mode r wanted b = goes-to-sheet sheet n s mode r wanted (b .fine) ∙ sheet-is n (partsOf s) mode r wanted sheet (b .there)
 
 pub refused-in-order : RefusedInOrder

@@ -18,6 +18,7 @@ use Rattle.site.specs.declared.SubArea.{SubArea}
 use Rattle.site.specs.declared.AreaAnswer.the-variants as area
 use Rattle.site.specs.Parts.{partsOf}
 use Rattle.site.specs.Judging.{judged}
+use Rattle.volume.specs.Volume.{volumeOf}
 use Rattle.sheet.specs.declared.Verdict.{Verdict}
 use Rattle.sheet.specs.declared.Verdict.the-variants.{Fine, Unfit}
 use Rattle.sheet.specs.Sheet.{verdictOf}
@@ -81,7 +82,7 @@ sheet-elsewhere wanted load impervious volumeAt ds rs ps mode r = told (verdictO
     told (Unfit list place) = refl
 
 by-elsewhere : (sheet : Sheet) (wanted : Wanted) (n : Nutrient) (parts : List SubArea) (mode : Mode) (r : ℕ)
-    → elsewhere (given (bySheet sheet wanted n parts mode r) .answer) ≡ true
+    → elsewhere (given (bySheet volumeOf sheet wanted n parts mode r) .answer) ≡ true
 by-elsewhere (lent ds rs ps) wanted n parts mode r = sheet-elsewhere wanted _ _ _ ds rs ps mode r
 by-elsewhere (published practice) wanted n parts mode r =
     turn-elsewhere _ ((isPublished practice n, NoPublishedSheet) ∷ []) (sheet-elsewhere wanted _ _ _ depths (ratesOf practice n) (percentsOf practice n) mode r) (refl, tt)

@@ -49,21 +49,33 @@ unfoldable pub onSheet : Wanted → ℕ → ℕ → (ℕ → ℕ) → List ℕ �
 onSheet wanted load impervious volumeAt ds rs ps mode r =
     afterAdmission BadSheet Refused (λ c. worked wanted load impervious volumeAt (percentAt ds ps c) (basisAt ds c)) (admissionOf ds rs ps mode r)
 
--- the same for a list of sub-areas, with its own load, impervious area and V
-abbrev pub onParts : Wanted → Nutrient → List SubArea → List ℕ → List ℕ → List ℕ → Mode → ℕ → CreditAnswer
-onParts wanted n parts ds rs ps mode r =
-    onSheet wanted (loadOf (rates.exportRates n) parts) (imperviousArea parts) (volumeOf parts) ds rs ps mode r
+-- a rule for V: V of sub-areas at each depth
+abbrev pub VolumeRule : Type 0
+VolumeRule = List SubArea → ℕ → ℕ
+
+-- the same for a list of sub-areas, with its own load and impervious area, and its V by a rule
+abbrev pub onParts : VolumeRule → Wanted → Nutrient → List SubArea → List ℕ → List ℕ → List ℕ → Mode → ℕ → CreditAnswer
+onParts volume wanted n parts ds rs ps mode r =
+    onSheet wanted (loadOf (rates.exportRates n) parts) (imperviousArea parts) (volume parts) ds rs ps mode r
 
 -- a practice that has no published sheet is refused 4
-abbrev pub bySheet : Sheet → Wanted → Nutrient → List SubArea → Mode → ℕ → CreditAnswer
-bySheet (lent ds rs ps) wanted n parts mode r = onParts wanted n parts ds rs ps mode r
-bySheet (published practice) wanted n parts mode r =
-    inTurn Refused (onParts wanted n parts depths (ratesOf practice n) (percentsOf practice n) mode r)
+abbrev pub bySheet : VolumeRule → Sheet → Wanted → Nutrient → List SubArea → Mode → ℕ → CreditAnswer
+bySheet volume (lent ds rs ps) wanted n parts mode r = onParts volume wanted n parts ds rs ps mode r
+bySheet volume (published practice) wanted n parts mode r =
+    inTurn Refused (onParts volume wanted n parts depths (ratesOf practice n) (percentsOf practice n) mode r)
     ((isPublished practice n, NoPublishedSheet) ∷ [])
 
--- the answer for a site: its record is judged before all else
-unfoldable pub answerOf : Sheet → Wanted → Nutrient → Site → Mode → ℕ → CreditAnswer
-answerOf sheet wanted n s mode r = afterJudging Refused (λ total. bySheet sheet wanted n (partsOf s) mode r) (judged s)
+-- how a credit or a size is answered for a site
+abbrev pub Answering : Type 0
+Answering = Sheet → Wanted → Nutrient → Site → Mode → ℕ → CreditAnswer
+
+-- by a rule for V: the record of the site is judged before all else
+abbrev pub answerBy : VolumeRule → Answering
+answerBy volume sheet wanted n s mode r = afterJudging Refused (λ total. bySheet volume sheet wanted n (partsOf s) mode r) (judged s)
+
+-- by V as the rules have it
+unfoldable pub answerOf : Answering
+answerOf sheet wanted n s mode r = answerBy volumeOf sheet wanted n s mode r
 
 -- The rules' number and values: for a refusal zeros, but for the list and place of 5, and no basis.
 pub record Given : Type 0 where

@@ -120,8 +120,8 @@ pub record Refusals (sheet : Sheet) (n : Nutrient) (s : Site) (mode : Mode) (r :
 abbrev pub RefusedInOrder : Type 0
 RefusedInOrder = (sheet : Sheet) (n : Nutrient) (s : Site) (mode : Mode) (r : ℕ) → Refusals sheet n s mode r
 
--- Demand 2, from volume to credit: the load, the credit and the removed load are those of document 001's tables and equations, and the
--- basis is that of the sheet at the depth of the volume.
+-- Demand 2, from volume to credit: the load, the credit and the removed load are those of document 001's tables and equations, with
+-- the rules' reading of a soil that is not known, and the basis is that of the sheet at the depth of the volume.
 abbrev pub CreditIsByTheTables : Type 0
 CreditIsByTheTables =
     (sheet : Sheet) (n : Nutrient) (s : Site) (mode : Mode) (r v : ℕ)
