@@ -13,6 +13,9 @@ percent before it was found: printed 1, between 2, start 3, held 4 (none 0 would
         the rules' three numbers (A at 55, CD at 110, D at 200), then every number of Table 3-4, row by row, columns in
         turn: the runoff at that rain in thirty-thousandths of an inch
 
+    unknown DEPTH VOLUME
+        behind each row, V of one commercial pervious acre (area 100) on soil U, which is read as D for runoff, at the row's rain
+
     sheet ANSWER LIST PLACE
         the test of the rules' sheet T with 65000 read as 35000
 
@@ -64,9 +67,14 @@ READINGS = (
 )
 
 
-def column(soil):
-    """The table column of a soil: an unknown one is read as C."""
+def load_column(soil):
+    """The column of a soil in Tables 3-1 and 3-2: an unknown one is read as C."""
     return "C" if soil == "U" else soil
+
+
+def runoff_column(soil):
+    """The column of a soil in Table 3-4: an unknown one is read as D."""
+    return "D" if soil == "U" else soil
 
 
 def export_rate(rates, use, soil):
@@ -75,7 +83,7 @@ def export_rate(rates, use, soil):
         return rates[LAND_USES.index(use)]
     if use in ("for", "ag"):
         return rates[9 if use == "for" else 10]
-    return rates[11 + COLUMNS.index(column(soil))]
+    return rates[11 + COLUMNS.index(load_column(soil))]
 
 
 def line(points, x):
@@ -138,7 +146,9 @@ def basis(sheet, mode, rate, depth):
 
 def volume(rows, parts, depth):
     """V(d) of sub-areas (land use, soil or None, area)."""
-    return 121 * sum(area * (300 * depth if soil is None else runoff(rows, column(soil), depth)) for _, soil, area in parts)
+    return 121 * sum(
+        area * (300 * depth if soil is None else runoff(rows, runoff_column(soil), depth)) for _, soil, area in parts
+    )
 
 
 def first_break(depths, rates, percents):
@@ -169,6 +179,10 @@ def bases_of_t():
             yield "basis", MODES.index(mode), rate, depth, percent(T, mode, rate, depth), basis(T, mode, rate, depth)
 
 
+def volume_of_unknown(rows, rain):
+    return "unknown", rain, volume(rows, [("com", "U", 100)], rain)
+
+
 def output(document):
     rows = document.runoff_rows()
     for soil, rain in (("A", 55), ("CD", 110), ("D", 200)):
@@ -176,6 +190,7 @@ def output(document):
     for row in rows:
         for place, soil in enumerate(COLUMNS):
             yield "runoff", place, row[0], runoff(rows, soil, row[0])
+        yield volume_of_unknown(rows, row[0])
     yield ("sheet", *first_break([20, 60, 100], [25, 75], [20000, 50000, 70000, 40000, 35000, 80000]))
     yield from bases_of_t()
     for shown, unit in READINGS:

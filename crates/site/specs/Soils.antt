@@ -1,4 +1,4 @@
--- Rules, "Site and load": which soil suits which cover, and how each table reads a soil.
+-- Rules, "Site and load" and "A soil that is not known": which soil suits which cover, and how each table reads a soil.
 -- Assumes nothing.
 use mathlib.Core.Bool.{Bool, true, false, not}
 use Rattle.units.specs.declared.Column.{Column}
@@ -34,10 +34,11 @@ columnOf unknown D = column.D
 columnOf unknown U = unknown
 columnOf unknown NoSoil = unknown
 
--- In Tables 3-1 and 3-2 U is read as C (note to Table 3-2).
+-- In Tables 3-1 and 3-2 U is read as C (their notes).
 abbrev pub loadColumn : Soil → Column
 loadColumn soil = columnOf column.C soil
 
--- In Table 3-4 U is read as C (text on Table 3-4).
+-- In Table 3-4 U is read as D, the soil that sheds most, so that nothing is sized too small where nobody dug a pit. The rule is ours:
+-- the text on Table 3-4 reads it as C.
 abbrev pub runoffColumn : Soil → Column
-runoffColumn soil = columnOf column.C soil
+runoffColumn soil = columnOf column.D soil

@@ -107,18 +107,18 @@ fn column(soil: Soil, unknown: Column) -> Column
     }
 }
 
-// The column of a soil in Tables 3-1 and 3-2.
+// The column of a soil in Tables 3-1 and 3-2, where one that is not known is read as C.
 pub fn load_column(soil: Soil) -> Column
     ensures { λ r. ⌜ r ≡ loadColumn soil ⌝ }
 {
     column(soil, Column::C)
 }
 
-// The column of a soil in Table 3-4.
+// The column of a soil in Table 3-4, where one that is not known is read as D.
 pub fn runoff_column(soil: Soil) -> Column
     ensures { λ r. ⌜ r ≡ runoffColumn soil ⌝ }
 {
-    column(soil, Column::C)
+    column(soil, Column::D)
 }
 
 // A sub-area is not refused 2.

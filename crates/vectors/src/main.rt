@@ -1,6 +1,6 @@
-// Rules, "Numbers to hold on to": runs the numbers that are told there and every entry of the published tables through the library,
-// and prints a line for each. The stored output was made from document 001 without the library, and tools/expected.py says
-// what each line holds.
+// Rules, "Numbers to hold on to": runs the numbers that are told there, volumes on a soil that is not known and every entry of
+// the published tables through the library, and prints a line for each. The stored output was made from document 001 without
+// the library, and tools/expected.py says what each line holds.
 use credit::CreditAnswer;
 use credit::Wanted;
 use curve::Mode;
@@ -83,13 +83,20 @@ fn say_runoff(column: Column, rain: u64) {
     }
 }
 
-// A row of Table 3-4.
+// V of one acre whose soil is not known, at a rain.
+fn say_unknown(rain: u64) {
+    let acre = with(site::empty(), LandUse::Com, Cover::Per, Soil::U, 100);
+    say(b"unknown", &[rain, volume_at(acre, rain)]);
+}
+
+// A row of Table 3-4, and V on a soil that is not known.
 fn say_row(rain: u64) {
     say_runoff(Column::A, rain);
     say_runoff(Column::B, rain);
     say_runoff(Column::C, rain);
     say_runoff(Column::CD, rain);
     say_runoff(Column::D, rain);
+    say_unknown(rain);
 }
 
 // The rules' three numbers, then Table 3-4.
