@@ -5,6 +5,7 @@ pub mod Walk
 pub mod Bisection
 pub mod Quotient
 pub mod Line
+pub mod Map
 pub mod Table
 pub mod Sum
 pub mod Equation

@@ -7,6 +7,7 @@ ghost use Rattle.job.specs.Fault.{faultOf};
 ghost use Rattle.answer.specs.Lines.{answerText};
 ghost use Rattle.writing.specs.Writing.{writtenOf, bufferOf};
 ghost use Rattle.calculator.specs.Outcome.{byTables, byLent, outcomeOf};
+ghost use Rattle.rewrite.specs.Rewriting.{rewrittenOf};
 ghost use Rattle.sagecruet.specs.Numbers.{ofWritten, ofSpan, ofVerdict, ofPercent, ofRate, modeOf, readingIn};
 use curve::Mode;
 use probe::RateAnswer;
@@ -170,6 +171,14 @@ pub extern "C" fn sagecruet_fault(text: &[u8]) -> Part
         from: span.from,
         len: span.to - span.from,
     }
+}
+
+// A stored job text, rewritten in its place.
+#[no_mangle]
+pub extern "C" fn sagecruet_rewrite(text: &mut [u8])
+    ensures { λ _. ⌜ now (text .exit) ≡ rewrittenOf (now (text .entry)) ⌝ }
+{
+    rewrite::rewrite(text)
 }
 
 // The test of a sheet.

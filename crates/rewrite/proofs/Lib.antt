@@ -1,0 +1,13 @@
+pub mod Changing
+pub mod Telling
+pub mod Texts
+pub mod Lines
+pub mod Heads
+pub mod Fields
+pub mod Sites
+pub mod Reading
+pub mod Volumes
+pub mod Outcomes
+pub mod Promises
+pub mod Before
+pub mod Numbers

@@ -1,0 +1,4 @@
+pub mod Rewriting
+pub mod OldRules
+pub mod Promises
+pub mod Numbers
