@@ -4,8 +4,8 @@
  * it. docs/C.md leads from there to a running program, and examples/c/example.c uses every function.
  *
  * Every function is proved to give its answer for every input. It keeps no state, takes no memory of its own and
- * changes nothing but the bytes of an answer text. What the proof leaves to the caller is what a C pointer cannot say.
- * Each list is handed over as a pointer and a count:
+ * changes nothing but the bytes of an answer text, or of a job that it rewrites. What the proof leaves to the caller is
+ * what a C pointer cannot say. Each list is handed over as a pointer and a count:
  *
  *   - the pointer is not null, even where the count is 0;
  *   - it is aligned for its type;
@@ -37,7 +37,8 @@
  *     USE      com, ind, hdr, mdr, ldr, hwy, for, open or ag: commercial, industrial, residential of high, medium and
  *              low density, highway, forest, open land, agriculture
  *     COVER    imp or per: impervious and directly connected, or pervious
- *     SOIL     A, B, C, CD, D, U or -: the last under imp, the others under per; U is not known and counts as C
+ *     SOIL     A, B, C, CD, D, U or -: the last under imp, the others under per. U means not known, and counts as C for
+ *              loads and as D for runoff; where C is meant, C is to be written
  *     NUMBER   1 to 14 digits with no point, comma, sign or leading zero
  *
  * The repository's README.md says which practice of the document each word stands for. With task load the practice, mode
@@ -175,6 +176,12 @@ size_t sagecruet_answer_on(const uint8_t *job, size_t job_len,
  * empty part at the end where a line is missing; an empty part at the start where the text is too long. A text that
  * is not refused 1 has an empty part at its end, one that is refused 2, 3 or 14 too: its line is found by its number. */
 struct sagecruet_part sagecruet_fault(const uint8_t *job, size_t job_len);
+
+/* Rewrites a stored job in its place: C for each soil U; the length and every other byte stay. It is for jobs that were
+ * stored while U counted as C for runoff too: rewritten, each gets the answer that it got then. A job that is refused 1,
+ * 2, 3 or 14 is left as it came. Rewrite only jobs that were stored then: twice changes nothing more, but in a job that was
+ * stored since, U means not known, and would become C. */
+void sagecruet_rewrite(uint8_t *job, size_t job_len);
 
 /* Tests a sheet: 1 to 16 depths, strictly rising, from 1 to 200; 1 to 8 rates, strictly rising, from 1 to 10,000, or
  * the single rate 0; a percent from 0 to 100,000 for each rate and depth, rate by rate, never falling within a rate. */

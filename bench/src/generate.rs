@@ -414,4 +414,25 @@ mod tests {
             assert!(lending || seen[4] == 0, "{:?}", seen);
         }
     }
+
+    /// At least one in twenty of the jobs is answered otherwise when it is rewritten, and one in five of the damaged ones
+    /// keeps its U.
+    #[test]
+    fn jobs_meet_an_unknown_soil() {
+        let mut random = Random::from(8);
+        let (mut otherwise, mut kept) = (0, 0);
+        for _ in 0..COUNT {
+            let job = job(&mut random);
+            let mut rewritten = job.clone();
+            reference::rewrite(&mut rewritten);
+            let (mut text, mut other) = ([0; ROOM], [0; ROOM]);
+            reference::answer(&job, &mut text);
+            reference::answer(&rewritten, &mut other);
+            otherwise += (text != other) as u64;
+            let mut damaged = damaged(&mut random);
+            reference::rewrite(&mut damaged);
+            kept += damaged.contains(&b'U') as u64;
+        }
+        assert!(otherwise >= COUNT / 20 && kept >= COUNT / 5, "{} {}", otherwise, kept);
+    }
 }

@@ -114,7 +114,7 @@ impl PercentAnswer {
     }
 }
 
-/// The six calls of the C interface, as either side gives them.
+/// The seven calls of the C interface, as either side gives them.
 pub struct Calls {
     pub name: &'static str,
     /// The answer text of a job, on the published tables: its length, or 0 where the buffer is too short.
@@ -127,4 +127,6 @@ pub struct Calls {
     pub percent: fn(Sheet, bool, u64, u64) -> PercentAnswer,
     /// The rate of a reading in millimetres or inches per hour.
     pub reading: fn(bool, f32) -> Value,
+    /// A job text rewritten where it stands, with C for an unknown soil.
+    pub rewrite: fn(&mut [u8]),
 }

@@ -2,7 +2,8 @@
 
 use crate::{Calls, Part, PercentAnswer, Sheet, Value, Verdict};
 
-pub const CALLS: Calls = Calls { name: "the proved library", answer, answer_on, fault, sheet, percent, reading };
+pub const CALLS: Calls =
+    Calls { name: "the proved library", answer, answer_on, fault, sheet, percent, reading, rewrite };
 
 mod c {
     use crate::{Part, PercentAnswer, Value, Verdict};
@@ -42,6 +43,7 @@ mod c {
             depth: u64,
         ) -> PercentAnswer;
         pub fn sagecruet_reading(millimetres: bool, reading: f32) -> Value;
+        pub fn sagecruet_rewrite(job: *mut u8, job_len: usize);
     }
 }
 
@@ -106,4 +108,8 @@ pub fn percent(sheet: Sheet, mix: bool, rate: u64, depth: u64) -> PercentAnswer 
 
 pub fn reading(millimetres: bool, reading: f32) -> Value {
     unsafe { c::sagecruet_reading(millimetres, reading) }
+}
+
+pub fn rewrite(job: &mut [u8]) {
+    unsafe { c::sagecruet_rewrite(job.as_mut_ptr(), job.len()) }
 }

@@ -1,4 +1,5 @@
-//! The rows of the vectors: jobs.jsonl, sheets.jsonl and readings.jsonl, one record a line.
+//! The rows of the vectors: jobs.jsonl, sheets.jsonl, readings.jsonl and, where a folder has it, rewrites.jsonl, one record a
+//! line.
 
 use std::fs;
 use std::path::Path;
@@ -161,25 +162,31 @@ fn tally(kind: &'static str, folder: &Path, calls: &Calls, holds: fn(&Calls, &Js
 
 /// Runs every row of a folder on one side.
 pub fn run(folder: &Path, calls: &Calls) -> Vec<Tally> {
-    vec![
+    let mut tallies = vec![
         tally("jobs", folder, calls, job_holds),
         tally("sheets", folder, calls, sheet_holds),
         tally("readings", folder, calls, reading_holds),
-    ]
+    ];
+    if folder.join("rewrites.jsonl").exists() {
+        tallies.push(tally("rewrites", folder, calls, rewrite_holds));
+    }
+    tallies
 }
 
-/// A job's answer text, into a buffer that is larger, one that is just large enough, and one that is too small; and
-/// the offending part, which a row gives from its first byte to the one after its last.
-fn job_holds(calls: &Calls, row: &Json) -> bool {
-    let job = bytes_of_hex(row.text("job"));
-    let text = row.text("answer").as_bytes();
-    let answers = [text.len() + 9, text.len(), text.len() - 1, 0].iter().all(|&room| {
+/// A job's answer text, into a buffer that is larger, one that is just large enough, and one that is too small.
+fn answers(calls: &Calls, job: &[u8], text: &[u8]) -> bool {
+    [text.len() + 9, text.len(), text.len() - 1, 0].iter().all(|&room| {
         let mut buffer = vec![b'#'; room];
         let mut expected = buffer.clone();
         let length = if room < text.len() { 0 } else { text.len() };
         expected[..length].copy_from_slice(&text[..length]);
-        (calls.answer)(&job, &mut buffer) == length && buffer == expected
-    });
+        (calls.answer)(job, &mut buffer) == length && buffer == expected
+    })
+}
+
+/// A job's answer text; and the offending part, which a row gives from its first byte to the one after its last.
+fn job_holds(calls: &Calls, row: &Json) -> bool {
+    let job = bytes_of_hex(row.text("job"));
     let part = match row.get("part") {
         Some(_) => {
             let ends = row.numbers("part");
@@ -187,7 +194,7 @@ fn job_holds(calls: &Calls, row: &Json) -> bool {
         }
         None => Part { from: job.len(), len: 0 },
     };
-    answers && (calls.fault)(&job) == part
+    answers(calls, &job, row.text("answer").as_bytes()) && (calls.fault)(&job) == part
 }
 
 /// The verdict on a sheet and its percents with their bases, beside refusal 5 with the list and the place of the verdict.
@@ -209,4 +216,11 @@ fn sheet_holds(calls: &Calls, row: &Json) -> bool {
 fn reading_holds(calls: &Calls, row: &Json) -> bool {
     let value = Value { answer: row.number("answer"), value: row.number("rate") };
     (calls.reading)(row.text("unit") == "mm", f32::from_bits(row.number("bits") as u32)) == value
+}
+
+/// A job's rewriting, and the answer text of the rewriting.
+fn rewrite_holds(calls: &Calls, row: &Json) -> bool {
+    let mut job = bytes_of_hex(row.text("job"));
+    (calls.rewrite)(&mut job);
+    job == bytes_of_hex(row.text("rewritten")) && answers(calls, &job, row.text("answer").as_bytes())
 }

@@ -14,6 +14,17 @@ fn answer(job: &str, sheet: Option<Sheet>) -> String {
     String::from_utf8(text[..length].to_vec()).unwrap()
 }
 
+/// The answer by the old rules, which is also that of the rewritten job.
+fn old_answer(job: &str, sheet: Option<Sheet>) -> String {
+    let mut text = [0; ROOM];
+    let length = reference::old_answer(job.as_bytes(), sheet, &mut text);
+    let mut rewritten = job.as_bytes().to_vec();
+    reference::rewrite(&mut rewritten);
+    let old = String::from_utf8(text[..length].to_vec()).unwrap();
+    assert_eq!(answer(std::str::from_utf8(&rewritten).unwrap(), sheet), old);
+    old
+}
+
 fn on_t(task: &str, amount: u64, areas: &str) -> String {
     answer(
         &format!("practice=basin\nnutrient=N\nmode=step\nrate=50\ntask={}\namount={}\n{}", task, amount, areas),
@@ -131,6 +142,50 @@ fn a_volume_and_one_unit_less() {
     assert!(on_t("credit", 1_100_343_749, site).contains("\ndepth=70\ncredit=55000\n"));
     let paved = "practice=basin\nnutrient=P\nmode=step\nrate=39\ntask=size\namount=70000\narea=com,imp,-,257\n";
     assert!(answer(paved, None).contains("\ndepth=36\ncredit=70000\nbasis=between\nvolume=335847600\n"));
+}
+
+#[test]
+fn volumes_on_an_unknown_soil() {
+    let site = "area=com,imp,-,400\narea=com,per,U,200\narea=com,per,B,150\n";
+    // A sheet on which the target 500 × d has the depth d.
+    let even = Sheet { depths: &[200], rates: &[0], percents: &[100_000] };
+    for (depth, old, new) in [
+        (10, 145_200_000u64, 145_200_000u64),
+        (20, 297_660_000, 304_920_000),
+        (71, 1_100_343_750, 1_144_629_750),
+        (200, 3_524_730_000, 3_807_870_000),
+    ] {
+        let head = "practice=basin\nnutrient=N\nmode=step\nrate=0\ntask=size\n";
+        let job = format!("{}amount={}\n{}", head, 500 * depth, site);
+        assert!(answer(&job, Some(even)).contains(&format!("\nvolume={}\n", new)), "{}", depth);
+        assert!(old_answer(&job, Some(even)).contains(&format!("\nvolume={}\n", old)), "{}", depth);
+    }
+    assert!(on_t("size", 55001, site).contains("\ndepth=71\ncredit=55500\nbasis=between\nvolume=1144629750\n"));
+    assert!(on_t("credit", 1_144_629_750, site).contains("\ndepth=71\ncredit=55500\n"));
+    assert!(on_t("credit", 1_144_629_749, site).contains("\ndepth=70\ncredit=55000\n"));
+    assert!(on_t("credit", 1_100_343_750, site).contains("\ndepth=68\ncredit=54000\n"));
+    for (nutrient, load) in [("P", 77_200), ("N", 666_000)] {
+        let job = format!("practice=basin\nnutrient={}\nmode=step\nrate=0\ntask=load\namount=0\n{}", nutrient, site);
+        assert!(answer(&job, None).starts_with(&format!("answer=0\nload={}\n", load)));
+        assert_eq!(answer(&job, None), old_answer(&job, None));
+    }
+}
+
+#[test]
+fn jobs_on_an_unknown_soil() {
+    let wetland = include_str!("../../jobs/wetland.job");
+    let basin = "practice=basin\nnutrient=P\nmode=step\nrate=39\ntask=size\namount=70000\n\
+                 area=com,imp,-,257\narea=com,per,U,300\n";
+    let wetland_answer = |depth, credit, removed| {
+        format!(
+            "answer=0\nload=637650\ndepth={}\ncredit={}\nbasis=between\nvolume=2000000000\nremoved={}\n",
+            depth, credit, removed
+        )
+    };
+    assert_eq!(answer(wetland, None), wetland_answer(107, 68840, 438958));
+    assert_eq!(old_answer(wetland, None), wetland_answer(120, 70400, 448905));
+    assert!(answer(basin, None).contains("\nvolume=392475600\n"));
+    assert!(old_answer(basin, None).contains("\nvolume=364161600\n"));
 }
 
 #[test]

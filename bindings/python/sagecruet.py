@@ -16,8 +16,9 @@ year, percents in thousandths of a percent. from_acres, to_acres and their likes
 REFUSALS says what the numbers given back mean. The basis, a word of BASES, says how the percent beside it was found.
 
 The functions call the proved library, a shared object for x86-64 Linux. Where it cannot be loaded, whatever asks for a
-job on the published tables (answer, answer_text, curve, plot) goes by the program creditrun instead, and the rest raises
-Unavailable, which says why and what to do. backend() says which of the two is used. bindings/python/README.md says more.
+job on the published tables (answer, answer_text, curve, plot) goes by the program creditrun instead, rewrite goes by the
+program rewriterun, and the rest raises Unavailable, which says why and what to do. backend() says which answers a job: library
+or program. bindings/python/README.md says more.
 """
 
 import ctypes
@@ -318,6 +319,7 @@ def _loaded(place):
         ("answer", text + text, ctypes.c_size_t),
         ("answer_on", text + sheet + text, ctypes.c_size_t),
         ("fault", text, _Part),
+        ("rewrite", text, None),
         ("sheet", sheet, _Verdict),
         ("percent", sheet + [ctypes.c_bool, ctypes.c_uint64, ctypes.c_uint64], _Percent),
         ("reading", [ctypes.c_bool, ctypes.c_float], _Value),
@@ -352,40 +354,45 @@ def _instead():
     return "; here answer, answer_text, curve and plot work, on the published tables, by the program creditrun"
 
 
-def _program():
-    """The command that reads a job and prints its answer, or Unavailable with the reason. The repository's `run` builds
-    the program where it is not there, which takes minutes; that is left to whoever wants it."""
-    named, repository = os.environ.get("SAGECRUET_PROGRAM", "").strip(), _repository()
+# For each program the setting that names another command for it, and the option by which `run` starts it.
+_PROGRAMS = {"creditrun": ("SAGECRUET_PROGRAM", "-q"), "rewriterun": ("SAGECRUET_REWRITER", "--rewrite")}
+
+
+def _program(program="creditrun"):
+    """The command that reads a job and prints its answer, or its rewriting, or Unavailable with the reason. The repository's
+    `run` builds the program where it is not there, which takes minutes; that is left to whoever wants it."""
+    setting, option = _PROGRAMS[program]
+    named, repository = os.environ.get(setting, "").strip(), _repository()
     if named:
-        return _command(named)
+        return _command(setting, named)
     if repository is None:
-        raise Unavailable('this module does not stand in the repository; set SAGECRUET_PROGRAM to "FOLDER/run -q", FOLDER being '
+        raise Unavailable(f'this module does not stand in the repository; set {setting} to "FOLDER/run {option}", FOLDER being '
                           "the repository's")
-    if not (repository / "target" / "bin" / "creditrun").is_file():
-        raise Unavailable(f"the program is not built; `./run jobs/sample.job` in {repository} proves and builds it, which takes "
-                          "some minutes")
-    return [str(repository / "run"), "-q"]
+    if not (repository / "target" / "bin" / program).is_file():
+        raise Unavailable(f"the program is not built; `./run {option} jobs/sample.job` in {repository} proves and builds it, "
+                          "which takes some minutes")
+    return [str(repository / "run"), option]
 
 
-def _command(named):
+def _command(setting, named):
     """A command in words, parted at spaces outside quotes, whose first is there to be started."""
     try:
         words = shlex.split(named)
     except ValueError as error:
-        raise Unavailable(f"SAGECRUET_PROGRAM is no command: {error}: {named!r}") from None
+        raise Unavailable(f"{setting} is no command: {error}: {named!r}") from None
     if shutil.which(words[0]) is None:
-        raise Unavailable(f"SAGECRUET_PROGRAM names a command that is not there, or may not be started: {words[0]!r}")
+        raise Unavailable(f"{setting} names a command that is not there, or may not be started: {words[0]!r}")
     return words
 
 
-def _found():
+def _found(program="creditrun"):
     """("library", it), ("program", its command), or Unavailable with the reasons of both."""
     try:
         return "library", _library()
     except Unavailable as error:
         no_library = error
     try:
-        return "program", _program()
+        return "program", _program(program)
     except Unavailable as no_program:
         raise Unavailable(f"no library: {no_library}. No program: {no_program}.") from None
 
@@ -402,15 +409,16 @@ _ANSWER = re.compile((r"answer=0\nload=\d+\ndepth=\d+\ncredit=\d+\nbasis=(?:" + 
                       r"|answer=\d+\nline=\d+\n").encode())
 
 
-def _by_program(command, job):
-    """The answer text that the program prints. Its standard error is left alone, so that a build that `run` starts is seen."""
+def _by_program(command, job, what, fits):
+    """What the program prints, where it ended as it should. Its standard error is left alone, so that a build that `run` starts
+    is seen."""
     named = shlex.join(command)
     try:
         done = subprocess.run(command, input=job, stdout=subprocess.PIPE, check=False)
     except OSError as error:
         raise Unavailable(f"the command {named} cannot be started: {error}") from None
-    if done.returncode not in (0, 1) or not _ANSWER.fullmatch(done.stdout):
-        raise Unavailable(f"the command {named} gave no answer and ended with status {done.returncode}; what it said went to "
+    if not fits(done):
+        raise Unavailable(f"the command {named} gave no {what} and ended with status {done.returncode}; what it said went to "
                           "standard error (in a notebook: the terminal where the server was started)")
     return done.stdout
 
@@ -419,7 +427,8 @@ def _by_program(command, job):
 
 def job(practice, nutrient, mode, rate, task, amount, areas):
     """A job text, from its values and a list of (use, cover, soil, area). It judges the kinds of the values alone: a word or
-    a number that no job may have is refused by the calculator, with its number and line.
+    a number that no job may have is refused by the calculator, with its number and line. The soil U means not known, and
+    counts as C for loads and as D for runoff; where C is meant, C is to be written.
 
     >>> print(job("basin", "N", "step", 0, "load", 0, [("ind", "imp", "-", 1013)]), end="")
     practice=basin
@@ -478,7 +487,7 @@ def answer_text(job, sheet=None, room=ROOM):
     lists = None if sheet is None else _lists(sheet)
     which, found = _found() if sheet is None else ("library", _library())
     if which == "program":
-        text = _by_program(found, job)
+        text = _by_program(found, job, "answer", lambda done: done.returncode in (0, 1) and _ANSWER.fullmatch(done.stdout))
         return text.decode() if len(text) <= room else None
     text = ctypes.create_string_buffer(room + 1)
     if sheet is None:
@@ -497,6 +506,24 @@ def answer(job, sheet=None):
     """
     pairs = (line.split("=") for line in answer_text(job, sheet).splitlines())
     return {key: value if key == "basis" else int(value) for key, value in pairs}
+
+
+def rewrite(job):
+    """A stored job with C for each soil U, as bytes. It is for jobs that were stored while U counted as C for runoff too:
+    rewritten, each gets the answer that it got then. A job that is refused 1, 2, 3 or 14 comes back as it is. Rewrite only
+    jobs that were stored then: in one that was stored since, U means not known, and would become C.
+
+    >>> rewrite(job("basin", "P", "step", 39, "load", 0, [("com", "per", "U", 300)])).splitlines()[-1]
+    b'area=com,per,C,300'
+    """
+    job = _text(job)
+    which, found = _found("rewriterun")
+    if which == "program":
+        either = job, job.replace(b"U", b"C")
+        return _by_program(found, job, "rewriting", lambda done: done.returncode == 0 and done.stdout in either)
+    text = ctypes.create_string_buffer(job, len(job) + 1)
+    found.sagecruet_rewrite(text, len(job))
+    return text.raw[:len(job)]
 
 
 # ---- What needs the library

@@ -74,6 +74,15 @@ static void answer(const char *job, bool on_sheet)
     }
 }
 
+/* Works a stored job out as it came, rewrites it in its place, and works it out again. */
+static void rewritten(char *job)
+{
+    answer(job, false);
+    sagecruet_rewrite((uint8_t *)job, strlen(job));
+    puts("Rewritten");
+    answer(job, false);
+}
+
 /* Tests the sheet above. */
 static void test(void)
 {
@@ -115,6 +124,10 @@ int main(void)
     answer("practice=basin\nnutrient=P\nmode=step\nrate=39\ntask=size\namount=70000\narea=com,imp,-,257\n", false);
     puts("The same with a slip");
     answer("practice=basin\nnutrient=P\nmode=stepp\nrate=39\ntask=size\namount=70000\narea=com,imp,-,257\n", false);
+    puts("The same with 3.00 pervious acres of a soil that is not known, stored when it counted as C");
+    char stored[] = "practice=basin\nnutrient=P\nmode=step\nrate=39\ntask=size\namount=70000\n"
+                    "area=com,imp,-,257\narea=com,per,U,300\n";
+    rewritten(stored);
 
     puts("A sheet of our own");
     test();

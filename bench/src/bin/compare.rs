@@ -2,8 +2,9 @@
 //!
 //!     compare [--seed N] [--count N] [--vectors FOLDER]
 //!
-//! Every byte of what is lent is compared: the answer's buffer, with the bytes after the text and about the buffer, and
-//! the job and the sheet, which no call may change. The exit status is 1 where anything differs.
+//! Every byte of what is lent is compared: the answer's buffer, with the bytes after the text and about the buffer; the job
+//! and the sheet, which no answer may change; and the buffer of a rewritten job, with the bytes about it. Our answer to a
+//! rewritten job is compared with the one that the old rules gave to the job. The exit status is 1 where anything differs.
 
 use std::path::Path;
 use std::process::ExitCode;
@@ -30,6 +31,11 @@ struct Seen {
     lists: [u64; 4],
     too_short: u64,
     longest: usize,
+    /// How many job texts the rewriting changed, how many of these the old rules answer otherwise, and how many texts with a U
+    /// it left as they came.
+    rewritten: u64,
+    answered_otherwise: u64,
+    left: u64,
 }
 
 impl Seen {
@@ -68,6 +74,38 @@ fn answered(sheet: Option<Sheet>, job: &[u8], ours: bool, text: &mut [u8]) -> us
     }
 }
 
+/// A job's rewriting, with Us about the buffer that it stands in.
+fn rewritten(job: &[u8], rewrite: fn(&mut [u8])) -> Vec<u8> {
+    let margin = [b'U'; MARGIN];
+    let mut buffer = [&margin, job, &margin].concat();
+    rewrite(&mut buffer[MARGIN..MARGIN + job.len()]);
+    buffer
+}
+
+/// What differs in the rewriting of a job that is answered `text`, or in the answer to the rewriting, if anything does.
+fn rewriting_differs(seen: &mut Seen, job: &[u8], sheet: Option<Sheet>, text: &[u8]) -> Option<String> {
+    let (ours, theirs) = (rewritten(job, linked::rewrite), rewritten(job, reference::rewrite));
+    let (mut our_text, mut old_text) = ([0; 256], [0; 256]);
+    let our_length = answered(sheet, &ours[MARGIN..MARGIN + job.len()], true, &mut our_text);
+    let old_length = reference::old_answer(job, sheet, &mut old_text);
+    let (our_text, old_text) = (&our_text[..our_length], &old_text[..old_length]);
+    if theirs[MARGIN..MARGIN + job.len()] != *job {
+        seen.rewritten += 1;
+        seen.answered_otherwise += (old_text != text) as u64;
+    } else {
+        seen.left += job.contains(&b'U') as u64;
+    }
+    (ours != theirs || our_text != old_text).then(|| {
+        format!(
+            "; rewritten \"{}\" and answered \"{}\", and by the Rust code \"{}\", by the old rules \"{}\"",
+            shown(&ours),
+            shown(our_text),
+            shown(&theirs),
+            shown(old_text)
+        )
+    })
+}
+
 fn compare_job(seen: &mut Seen, random: &mut Random, job: Vec<u8>, lent: Option<&OwnSheet>) {
     let sheet = lent.map(OwnSheet::lend);
     let (copy, sheet_copy) = (job.clone(), lent.cloned());
@@ -78,6 +116,7 @@ fn compare_job(seen: &mut Seen, random: &mut Random, job: Vec<u8>, lent: Option<
         seen.job_bases[basis as usize] += 1;
     }
     seen.longest = seen.longest.max(job.len());
+    let rewriting = rewriting_differs(seen, &job, sheet, &whole[..length]);
     let room = match random.below(6) {
         0 => random.below(length as u64 + 1) as usize,
         1 => length,
@@ -92,10 +131,10 @@ fn compare_job(seen: &mut Seen, random: &mut Random, job: Vec<u8>, lent: Option<
     seen.too_short += (their_length == 0) as u64;
     let (our_part, their_part) = (linked::fault(&job), reference::fault(&job));
     let kept = job == copy && lent == sheet_copy.as_ref();
-    let same = our_length == their_length && ours == theirs && our_part == their_part;
+    let same = our_length == their_length && ours == theirs && our_part == their_part && rewriting.is_none();
     seen.note(same && kept, || {
         format!(
-            "job \"{}\" with {:?} and room {}: {} \"{}\" {:?}, and the Rust code {} \"{}\" {:?}",
+            "job \"{}\" with {:?} and room {}: {} \"{}\" {:?}, and the Rust code {} \"{}\" {:?}{}",
             shown(&copy),
             sheet_copy,
             room,
@@ -104,7 +143,8 @@ fn compare_job(seen: &mut Seen, random: &mut Random, job: Vec<u8>, lent: Option<
             our_part,
             their_length,
             shown(&theirs[MARGIN..MARGIN + their_length]),
-            their_part
+            their_part,
+            rewriting.unwrap_or_default()
         )
     });
 }
@@ -207,6 +247,10 @@ fn main() -> ExitCode {
         told(&seen.lists)
     );
     println!("  buffers too short for the text (13): {}; longest job text: {} bytes", seen.too_short, seen.longest);
+    println!(
+        "job texts with a U: {} rewritten, {} of them answered otherwise by the old rules; {} left as they came",
+        seen.rewritten, seen.answered_otherwise, seen.left
+    );
     let mut whole = seen.differed == 0;
     match vectors {
         None => println!("no folder of vectors was given: none was run"),

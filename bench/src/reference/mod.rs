@@ -4,6 +4,7 @@ mod answer;
 mod curve;
 mod job;
 mod probe;
+mod rewrite;
 mod site;
 
 use crate::tables::PUBLISHED;
@@ -11,21 +12,27 @@ use crate::{Calls, Part, PercentAnswer, Sheet, Value, Verdict};
 use answer::{Figures, Outcome};
 use curve::Curve;
 use job::{Job, Task};
-use site::{Ground, GRID};
+pub use rewrite::rewrite;
+use site::{Ground, Soil, GRID, UNKNOWN_FOR_RUNOFF};
 
 const LARGEST: u64 = 10_000_000_000_000;
 const MOST_PERCENT: u64 = 100_000;
 
-pub const CALLS: Calls = Calls { name: "the Rust code", answer, answer_on, fault, sheet, percent, reading };
+pub const CALLS: Calls = Calls { name: "the Rust code", answer, answer_on, fault, sheet, percent, reading, rewrite };
 
 /// The answer text of a job on the published tables, written into `text`: its length, or 0 where it does not fit.
 pub fn answer(job: &[u8], text: &mut [u8]) -> usize {
-    outcome(job, None).write(text)
+    outcome(job, None, UNKNOWN_FOR_RUNOFF).write(text)
 }
 
 /// The same with a lent sheet in the place of the tables.
 pub fn answer_on(job: &[u8], sheet: Sheet, text: &mut [u8]) -> usize {
-    outcome(job, Some(sheet)).write(text)
+    outcome(job, Some(sheet), UNKNOWN_FOR_RUNOFF).write(text)
+}
+
+/// The answer text that a job had by the old rules, which read an unknown soil as C in Table 3-4 too.
+pub fn old_answer(job: &[u8], sheet: Option<Sheet>, text: &mut [u8]) -> usize {
+    outcome(job, sheet, Soil::C).write(text)
 }
 
 /// The part of a job text that refusal 1 is about; empty at the end where the text is not refused 1.
@@ -59,18 +66,18 @@ pub fn reading(millimetres: bool, reading: f32) -> Value {
     probe::rate(millimetres, reading)
 }
 
-fn outcome(text: &[u8], lent: Option<Sheet>) -> Outcome {
+fn outcome(text: &[u8], lent: Option<Sheet>, unknown: Soil) -> Outcome {
     let job = match job::read(text) {
         Ok(job) => job,
         Err(fault) => return Outcome::Refused { answer: fault.answer, line: fault.line },
     };
-    match figures(&job, lent) {
+    match figures(&job, lent, unknown) {
         Ok(figures) => Outcome::Granted(figures),
         Err(answer) => Outcome::Refused { answer, line: 0 },
     }
 }
 
-fn figures(job: &Job, lent: Option<Sheet>) -> Result<Figures, u64> {
+fn figures(job: &Job, lent: Option<Sheet>, unknown: Soil) -> Result<Figures, u64> {
     if job.task == Task::Load {
         if job.amount != 0 {
             return Err(9);
@@ -84,7 +91,7 @@ fn figures(job: &Job, lent: Option<Sheet>) -> Result<Figures, u64> {
         None => PUBLISHED[job.practice][job.nutrient],
     };
     let curve = Curve::of(sheet, job.mix, job.rate)?;
-    let ground = Ground::of(&job.site);
+    let ground = Ground::of(&job.site, unknown);
     if ground.impervious == 0 {
         return Err(8);
     }

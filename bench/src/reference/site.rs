@@ -7,6 +7,10 @@ pub const GRID: u64 = 200;
 const MOST_AREA: u64 = 1_000_000;
 const MOST_PARTS: usize = 32;
 
+/// The soil as which an unknown one is read in Tables 3-1 and 3-2, and in Table 3-4.
+const UNKNOWN_FOR_LOAD: Soil = Soil::C;
+pub const UNKNOWN_FOR_RUNOFF: Soil = Soil::D;
+
 /// Land uses by their place in the list com, ind, hdr, mdr, ldr, hwy, for, open, ag.
 const FOREST: u8 = 6;
 const AGRICULTURE: u8 = 8;
@@ -23,10 +27,10 @@ pub enum Soil {
 }
 
 impl Soil {
-    /// The table column of a pervious soil: an unknown one is read as C.
-    fn column(self) -> usize {
+    /// The table column of a pervious soil, an unknown one being read as `unknown`.
+    fn column(self, unknown: Soil) -> usize {
         if self == Soil::Unknown {
-            Soil::C as usize
+            unknown as usize
         } else {
             self as usize
         }
@@ -50,7 +54,7 @@ impl SubArea {
             land_use if self.impervious => land_use as usize,
             FOREST => 9,
             AGRICULTURE => 10,
-            _ => 11 + self.soil.column(),
+            _ => 11 + self.soil.column(UNKNOWN_FOR_LOAD),
         }
     }
 }
@@ -98,13 +102,14 @@ pub struct Ground {
 }
 
 impl Ground {
-    pub fn of(site: &Site) -> Ground {
+    /// An unknown soil is read as `unknown`.
+    pub fn of(site: &Site, unknown: Soil) -> Ground {
         let mut ground = Ground { impervious: 0, pervious: [0; 5] };
         for part in site.parts() {
             if part.impervious {
                 ground.impervious += part.area;
             } else {
-                ground.pervious[part.soil.column()] += part.area;
+                ground.pervious[part.soil.column(unknown)] += part.area;
             }
         }
         ground

@@ -33,8 +33,18 @@ IN_REPOSITORY = (ROOT / "crates.txt").is_file()
 T = sagecruet.Sheet([20, 60, 100], [25, 75], [20000, 50000, 70000, 40000, 65000, 80000])
 PAVED = [("com", "imp", "-", 257)]
 SIZE = sagecruet.job("basin", "P", "step", 39, "size", 70000, PAVED)
+STORED = sagecruet.job("basin", "P", "step", 39, "size", 70000, PAVED + [("com", "per", "U", 300)])
+
+
+def rewrites():
+    try:
+        return sagecruet.rewrite("") == b""
+    except sagecruet.Unavailable:
+        return False
+
 
 needs_answers = unittest.skipIf(sagecruet.backend() is None, "neither the library nor the program is there")
+needs_rewriting = unittest.skipIf(not rewrites(), "neither the library nor the program rewriterun is there")
 needs_library = unittest.skipIf(sagecruet.backend() != "library", "the library cannot be loaded here")
 needs_repository = unittest.skipIf(not IN_REPOSITORY, "the module does not stand in the repository")
 
@@ -46,6 +56,8 @@ def examples_need(test):
         raise unittest.SkipTest("the library cannot be loaded here")
     if name in ("sagecruet", "answer", "curve", "md") and sagecruet.backend() is None:
         raise unittest.SkipTest("neither the library nor the program is there")
+    if name in ("rewrite", "md") and not rewrites():
+        raise unittest.SkipTest("neither the library nor the program rewriterun is there")
 
 
 def load_tests(loader, tests, pattern):
@@ -264,7 +276,7 @@ class Answers(unittest.TestCase):
         self.assertEqual(sagecruet.answer_text("", room=2**63), text)
 
     def test_wrong_kinds(self):
-        for function in (sagecruet.answer, sagecruet.answer_text, sagecruet.fault):
+        for function in (sagecruet.answer, sagecruet.answer_text, sagecruet.fault, sagecruet.rewrite):
             for wrong in (None, 5, 1.5, ["practice=basin"], bytearray(b"practice"), Path("jobs/sample.job")):
                 with self.subTest(function=function.__name__, wrong=wrong):
                     self.assertRaisesRegex(TypeError, r"job: expected a text \(str or bytes\)", function, wrong)
@@ -291,6 +303,46 @@ class Answers(unittest.TestCase):
     def test_the_longest_answer_has_room(self):
         longest = "answer=0\n" + "".join(f"{key}={2**64 - 1}\n" for key in ("load", "depth", "credit", "volume", "removed"))
         self.assertEqual(sagecruet.ROOM, len(longest) + max(len(f"basis={word}\n") for word in sagecruet.BASES))
+
+
+class Rewriting(unittest.TestCase):
+    @needs_rewriting
+    def test_each_U_becomes_C_and_nothing_else_changes(self):
+        soils = [("hwy", "per", soil, 1) for soil in ("A", "B", "C", "CD", "D", "U")]
+        for text in (
+            STORED,
+            sagecruet.job("basin", "N", "step", 0, "load", 0, PAVED + soils + [("com", "per", "U", 300)]),
+            sagecruet.job("basin", "P", "step", 39, "size", 70000, 32 * [("ag", "per", "U", 1)]),  # refused 8
+            STORED.replace("rate=39", "rate=1"),  # refused 7
+            STORED.replace("70000", "100001"),  # refused 9
+        ):
+            rewritten = text.replace(",U,", ",C,").encode()
+            with self.subTest(text=text):
+                self.assertEqual(sagecruet.rewrite(text), rewritten)
+                self.assertEqual(sagecruet.rewrite(text.encode()), rewritten)
+                self.assertEqual(sagecruet.rewrite(rewritten), rewritten)
+
+    @needs_answers
+    @needs_rewriting
+    def test_a_rewritten_job_gets_the_answer_of_before(self):
+        # At 0.36 in, four fifths of the way from 0.20 to 0.40, the runoff of D is 5.2 hundredths of an inch and that of C 2.6:
+        # V is 121 * (300 * 36 * 257 + 300 * 1560), and with 780 for 1560.
+        for text, volume in ((STORED, 392475600), (sagecruet.rewrite(STORED), 364161600)):
+            self.assertEqual(sagecruet.answer(text), {"answer": 0, "load": 52046, "depth": 36, "credit": 70000,
+                                                      "basis": "between", "volume": volume, "removed": 36432})
+
+    @needs_rewriting
+    def test_a_job_that_is_refused_1_2_3_or_14_comes_back_as_it_is(self):
+        line = "area=com,per,U,300\n"
+        for text in (
+            "", "U", STORED[:-1], STORED + "U", STORED.replace("\n", "\r\n"), STORED.replace("=P", "=U"),
+            STORED + line.replace("U", "UD"), STORED + line.replace("U", "u"), STORED + line.replace("U", "\u00dc"),
+            STORED + "\0", STORED + line.replace("per", "imp"), STORED + line.replace("300", "1000000"), STORED + 31 * line,
+            STORED.ljust(4096, "U"), STORED.ljust(4097, "U"), STORED.ljust(200_000, "U"),
+        ):
+            with self.subTest(text=text[-80:]):
+                self.assertEqual(sagecruet.rewrite(text), text.encode())
+        self.assertEqual(sagecruet.rewrite(STORED.encode() + b"\xff\n"), STORED.encode() + b"\xff\n")
 
 
 class WithTheLibrary(unittest.TestCase):
@@ -494,12 +546,20 @@ printf 'answer=0\\nload=7\\ndepth=6\\ncredit=5\\nbasis=held\\nvolume=4\\nremoved
 """
 
 
+# A program that writes C for U whatever it is given.
+REWRITER = """#!/bin/sh
+[ "$*" = "--rewrite" ] || exit 2
+tr U C
+"""
+
+
 class WhatIsThere(unittest.TestCase):
     def machine(self, name):
         return mock.patch("platform.machine", return_value=name)
 
     def repository(self, run=STUB, **environment):
-        return elsewhere([("crates.txt", ""), ("run", run), ("target/bin/creditrun", "")], **environment)
+        built = [("target/bin/creditrun", ""), ("target/bin/rewriterun", "")]
+        return elsewhere([("crates.txt", ""), ("run", run)] + built, **environment)
 
     def test_neither_library_nor_program(self):
         with elsewhere() as (module, _):
@@ -524,14 +584,17 @@ class WhatIsThere(unittest.TestCase):
                     self.assertRaisesRegex(module.Unavailable, "`make shared` in the repository's folder", call)
                 with self.subTest(call=number), self.machine("aarch64"):
                     self.assertRaisesRegex(module.Unavailable, "is for x86-64 and this processor is aarch64", call)
-            for call in (lambda: module.answer(SIZE), lambda: module.answer_text(SIZE), lambda: module.curve("sand", "P")):
+            for call in (lambda: module.answer(SIZE), lambda: module.answer_text(SIZE), lambda: module.curve("sand", "P"),
+                         lambda: module.rewrite(STORED)):
                 self.assertRaisesRegex(module.Unavailable, "^no library: .* No program: ", call)
+            self.assertRaisesRegex(module.Unavailable, 'set SAGECRUET_REWRITER to "FOLDER/run --rewrite"', module.rewrite, STORED)
 
     def test_a_program_that_is_not_built_is_not_built_silently(self):
         with elsewhere([("crates.txt", ""), ("run", STUB)]) as (module, folder):
             self.assertIsNone(module.backend())
-            message = re.escape(f"the program is not built; `./run jobs/sample.job` in {folder} proves and builds it")
-            self.assertRaisesRegex(module.Unavailable, message, module.answer, SIZE)
+            for option, call in (("-q", module.answer), ("--rewrite", module.rewrite)):
+                message = re.escape(f"the program is not built; `./run {option} jobs/sample.job` in {folder} proves and builds it")
+                self.assertRaisesRegex(module.Unavailable, message, call, SIZE)
 
     def test_the_library_that_is_no_library(self):
         with elsewhere([("other.so", "no library")]) as (module, folder), self.machine("x86_64"):
@@ -559,6 +622,36 @@ class WhatIsThere(unittest.TestCase):
             named.chmod(0o755)
             with mock.patch.dict(os.environ, SAGECRUET_PROGRAM=f"'{named}' -q"):
                 self.assertEqual(module.answer(SIZE)["load"], 7)
+
+    def test_the_run_of_the_repository_rewrites(self):
+        with self.repository(run=REWRITER) as (module, folder):
+            self.assertEqual(module.rewrite(STORED), STORED.replace("U", "C").encode())
+            (folder / "target" / "bin" / "creditrun").unlink()
+            self.assertEqual(module.rewrite(STORED), STORED.replace("U", "C").encode())
+            (folder / "target" / "bin" / "rewriterun").unlink()
+            self.assertRaisesRegex(module.Unavailable, "the program is not built", module.rewrite, STORED)
+
+    def test_the_rewriter_that_is_named_comes_first(self):
+        with self.repository(run=REWRITER, SAGECRUET_REWRITER="cat", SAGECRUET_PROGRAM="no-such-command") as (module, _):
+            self.assertEqual(module.rewrite(STORED), STORED.encode())
+            with mock.patch.dict(os.environ, SAGECRUET_REWRITER="no-such-command"):
+                words = "SAGECRUET_REWRITER names a command that is not there, .* 'no-such-command'"
+                self.assertRaisesRegex(module.Unavailable, words, module.rewrite, STORED)
+
+    def test_what_is_no_rewriting_is_no_rewriting(self):
+        for run, words in (
+            ("exit 2", "status 2"),
+            ("tr U C; exit 1", "status 1"),
+            ("cat >/dev/null", "status 0"),
+            ("head -n 3", "status 0"),
+            ("tr U D", "status 0"),
+            ("cat; echo", "status 0"),
+            ("sed 's/U,300/C,300/; s/com/COM/'", "status 0"),
+            ("tr U C; kill -9 $$", "status -9"),
+        ):
+            with self.subTest(run=run), self.repository(run=f"#!/bin/sh\n{run}\n") as (module, _):
+                words = f"gave no rewriting and ended with {words}; .* the terminal"
+                self.assertRaisesRegex(module.Unavailable, words, module.rewrite, STORED)
 
     def test_a_refused_job_ends_with_1(self):
         with self.repository(run="#!/bin/sh\nprintf 'answer=10\\nline=0\\n'\nexit 1\n") as (module, _):
