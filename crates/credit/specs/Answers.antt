@@ -39,6 +39,14 @@ credit v = Credit (record { 0 = v })
 abbrev pub size : ℕ → Wanted
 size target = Size (record { 0 = target })
 
+-- how it is answered on a sheet, for a nutrient, a site, a mode and a rate
+abbrev pub Answering : Type 0
+Answering = Sheet → Wanted → Nutrient → Site → Mode → ℕ → CreditAnswer
+
+-- a rule for V: V of sub-areas at each depth
+abbrev pub VolumeRule : Type 0
+VolumeRule = List SubArea → ℕ → ℕ
+
 -- crediting or sizing by a load, an impervious area, a V and the percent at each depth with its basis
 abbrev pub worked : Wanted → ℕ → ℕ → (ℕ → ℕ) → (ℕ → ℕ) → (ℕ → Basis) → CreditAnswer
 worked (Credit v) load impervious volumeAt percents bases = creditBy load impervious volumeAt percents bases (v .0)
@@ -48,10 +56,6 @@ worked (Size target) load impervious volumeAt percents bases = sizeBy load imper
 unfoldable pub onSheet : Wanted → ℕ → ℕ → (ℕ → ℕ) → List ℕ → List ℕ → List ℕ → Mode → ℕ → CreditAnswer
 onSheet wanted load impervious volumeAt ds rs ps mode r =
     afterAdmission BadSheet Refused (λ c. worked wanted load impervious volumeAt (percentAt ds ps c) (basisAt ds c)) (admissionOf ds rs ps mode r)
-
--- a rule for V: V of sub-areas at each depth
-abbrev pub VolumeRule : Type 0
-VolumeRule = List SubArea → ℕ → ℕ
 
 -- the same for a list of sub-areas, with its own load and impervious area, and its V by a rule
 abbrev pub onParts : VolumeRule → Wanted → Nutrient → List SubArea → List ℕ → List ℕ → List ℕ → Mode → ℕ → CreditAnswer
@@ -65,15 +69,11 @@ bySheet volume (published practice) wanted n parts mode r =
     inTurn Refused (onParts volume wanted n parts depths (ratesOf practice n) (percentsOf practice n) mode r)
     ((isPublished practice n, NoPublishedSheet) ∷ [])
 
--- how a credit or a size is answered for a site
-abbrev pub Answering : Type 0
-Answering = Sheet → Wanted → Nutrient → Site → Mode → ℕ → CreditAnswer
-
--- by a rule for V: the record of the site is judged before all else
+-- the answer for a site, by a rule for V: its record is judged before all else
 abbrev pub answerBy : VolumeRule → Answering
 answerBy volume sheet wanted n s mode r = afterJudging Refused (λ total. bySheet volume sheet wanted n (partsOf s) mode r) (judged s)
 
--- by V as the rules have it
+-- the answer for a site, by V as the rules have it
 unfoldable pub answerOf : Answering
 answerOf sheet wanted n s mode r = answerBy volumeOf sheet wanted n s mode r
 

@@ -60,31 +60,31 @@ one-of-six P a b c d e f (suc (suc (suc (suc zero)))) h = e
 one-of-six P a b c d e f (suc (suc (suc (suc (suc zero))))) h = f
 one-of-six P a b c d e f (suc (suc (suc (suc (suc (suc k)))))) h = absurd (omega arith)
 
-from-stays : (lines : List (List ℕ)) (p n m : Found) (r : Numeral) (t : Found) (a : Numeral) → Grants (behindHead (headFrom p n m r t a) lines .answer)
-    → wordIn lines 0 (bytes "practice=") practiceWords ≡ p
+-- where the lines of a head say these words and numbers, each of them stays
+abbrev StayIf : List (List ℕ) → Found → Found → Found → Numeral → Found → Numeral → Type 0
+StayIf lines p n m r t a =
+    wordIn lines 0 (bytes "practice=") practiceWords ≡ p
     → wordIn lines 1 (bytes "nutrient=") nutrientWords ≡ n
     → wordIn lines 2 (bytes "mode=") modeWords ≡ m
     → numberIn lines 3 (bytes "rate=") ≡ r
     → wordIn lines 4 (bytes "task=") taskWords ≡ t
     → numberIn lines 5 (bytes "amount=") ≡ a
     → (k : ℕ) → k < headLines → Stays lines k
-from-stays lines p n m r t a g =
-    head-reads
-    (λ p n m r t a. wordIn lines 0 (bytes "practice=") practiceWords ≡ p → wordIn lines 1 (bytes "nutrient=") nutrientWords ≡ n → wordIn lines 2 (bytes "mode=") modeWords ≡ m → numberIn lines 3 (bytes "rate=") ≡ r → wordIn lines 4 (bytes "task=") taskWords ≡ t → numberIn lines 5 (bytes "amount=") ≡ a → (k : ℕ) → k < headLines → Stays lines k)
-    (λ p n m r t a e1 e2 e3 e4 e5 e6.
+
+stay-if : (lines : List (List ℕ)) (p n m r t a : ℕ) → StayIf lines (At p) (At n) (At m) (Is r) (At t) (Is a)
+stay-if lines p n m r t a e1 e2 e3 e4 e5 e6 =
     one-of-six (Stays lines)
     (word-line lines 0 (bytes "practice=") (keys-free .0) practiceWords (words-free .0) (none-empty .0) e1)
     (word-line lines 1 (bytes "nutrient=") (keys-free .1) nutrientWords (words-free .1) (none-empty .1) e2)
     (word-line lines 2 (bytes "mode=") (keys-free .2) modeWords (words-free .2) (none-empty .2) e3)
     (number-line lines 3 (bytes "rate=") (keys-free .3) e4)
     (word-line lines 4 (bytes "task=") (keys-free .4) taskWords (words-free .3) (none-empty .3) e5)
-    (number-line lines 5 (bytes "amount=") (keys-free .5) e6))
-    p n m r t a lines g
+    (number-line lines 5 (bytes "amount=") (keys-free .5) e6)
 
 module _ (lines : List (List ℕ)) (g : Grants (behindHead (headOf lines) lines .answer)) where
   each-stays : (k : ℕ) → k < headLines → Stays lines k
   unfolding headOf
-  each-stays = from-stays lines _ _ _ _ _ _ g refl refl refl refl refl refl
+  each-stays = head-reads (StayIf lines) (stay-if lines) _ _ _ _ _ _ lines g refl refl refl refl refl refl
 
   -- The head says what it said,
   pub head-said : headOf (linesOnC lines) ≡ headOf lines

@@ -14,6 +14,7 @@ use Rattle.refusal.specs.declared.Refusal.the-variants.{MalformedText}
 use Rattle.text.specs.declared.Found.{Found}
 use Rattle.text.specs.declared.Found.the-variants.{At}
 use Rattle.text.specs.declared.Numeral.{Numeral}
+use Rattle.text.specs.declared.Numeral.the-variants.{Is}
 use Rattle.text.specs.Pieces.{lineFeed}
 use Rattle.text.specs.Words.{placeOf}
 use Rattle.text.specs.Numbers.{numeralOf}
@@ -43,19 +44,22 @@ use Rattle.rewrite.proofs.Sites.{addedOnC, added-on-c}
 abbrev pub readingOnC : Reading → Reading
 readingOnC r = record { answer = r .answer; site = siteOnC (r .site) }
 
+-- the word of a soil, and that of its C
+abbrev SoilOnC : Found → Found → Type 0
+SoilOnC o x = (k : ℕ) → o ≡ At k → (i : ℕ) × (x ≡ At i) × (soilAt i ≡ onC (soilAt k))
+
 -- The add of a line that is granted, with its soil on C, is the add to the site on C.
-line-on-c : (s : Site) (l c o x : Found) (n : Numeral)
-    → ((k : ℕ) → o ≡ At k → (i : ℕ) × (x ≡ At i) × (soilAt i ≡ onC (soilAt k)))
-    → Adds (addedLine s (subAreaFrom l c o n) .answer)
-    → addedLine (siteOnC s) (subAreaFrom l c x n) ≡ addedOnC (addedLine s (subAreaFrom l c o n))
+abbrev LineOnC : Site → Found → Found → Found → Found → Numeral → Type 0
+LineOnC s x l c o n = SoilOnC o x → addedLine (siteOnC s) (subAreaFrom l c x n) ≡ addedOnC (addedLine s (subAreaFrom l c o n))
+
+line-on-c : (s : Site) (l c o x : Found) (n : Numeral) → Adds (addedLine s (subAreaFrom l c o n) .answer) → LineOnC s x l c o n
 unfolding addedLine subAreaFrom
-line-on-c s l c o x n h g =
-    line-reads
-    (λ l c o n. ((k : ℕ) → o ≡ At k → (i : ℕ) × (x ≡ At i) × (soilAt i ≡ onC (soilAt k))) → addedLine (siteOnC s) (subAreaFrom l c x n) ≡ addedOnC (addedLine s (subAreaFrom l c o n)))
+line-on-c s l c o x n g =
+    line-reads (LineOnC s x)
     (λ l c o a h.
     let k = h o refl in
     rw (k .1, k .2) (added-on-c s (record { land = landAt l; cover = coverAt c; soil = soilAt o; area = record { 0 = a } })))
-    s l c o n g h
+    s l c o n g
 
 area-on-c : (s : Site) (line next : List ℕ) (others : List (List ℕ)) → Adds (addedLine s (areaIn (line ∷ next ∷ others)) .answer)
     → addedLine (siteOnC s) (areaIn (linesOnC (line ∷ next ∷ others))) ≡ addedOnC (addedLine s (areaIn (line ∷ next ∷ others)))
@@ -70,8 +74,8 @@ area-on-c s line next others g =
     (placeOf soilWords (soilField v))
     (placeOf soilWords (map cForU (soilField v)))
     (numeralOf (areaField v))
-    (soil-on-c (soilField v))
-    g)
+    g
+    (soil-on-c (soilField v)))
 
 -- The areas of a text that reads.
 ended-on-c : (job : Job) (rest : List ℕ) (k : ℕ) (s : Site) → Grants (endedAt job rest k s .answer)
@@ -100,44 +104,46 @@ areas-on-c job =
     onward k new old e (area.Refused why) g = absurd g
 
 -- Of each of their lines the soil alone is changed.
-areas-alone : (job : Job) (ls : List (List ℕ)) (k : ℕ) (s : Site) → Grants (areasFrom job ls k s .answer) → (i : ℕ) → suc i < length ls → SoilAlone (getD ls i []) (map cForU (getD ls i []))
+abbrev Alone : List (List ℕ) → Type 0
+Alone ls = (i : ℕ) → suc i < length ls → SoilAlone (getD ls i []) (map cForU (getD ls i []))
+
+areas-alone : (job : Job) (ls : List (List ℕ)) (k : ℕ) (s : Site) → Grants (areasFrom job ls k s .answer) → Alone ls
 areas-alone job =
-    areas-read job (λ ls k s. (i : ℕ) → suc i < length ls → SoilAlone (getD ls i []) (map cForU (getD ls i [])))
+    areas-read job (λ ls k s. Alone ls)
     (λ k s g i h. absurd (omega arith))
     (λ rest k s g i h. absurd (omega arith))
-    (λ line next others k s g later. at line next others (soil-alone s (line ∷ next ∷ others) g) later)
+    (λ line next others k s g later. at line (next ∷ others) (soil-alone s (line ∷ next ∷ others) g) later)
   where
-    at : (line next : List ℕ) (others : List (List ℕ)) → SoilAlone line (map cForU line)
-        → ((i : ℕ) → suc i < length (next ∷ others) → SoilAlone (getD (next ∷ others) i []) (map cForU (getD (next ∷ others) i [])))
-        → (i : ℕ) → suc i < length (line ∷ next ∷ others) → SoilAlone (getD (line ∷ next ∷ others) i []) (map cForU (getD (line ∷ next ∷ others) i []))
-    at line next others first later zero h = first
-    at line next others first later (suc i) h = later i (omega arith)
+    at : (line : List ℕ) (ls : List (List ℕ)) → SoilAlone line (map cForU line) → Alone ls → Alone (line ∷ ls)
+    at line ls first later zero h = first
+    at line ls first later (suc i) h = later i (omega arith)
 
 -- Head and areas together.
-from-on-c : (p n m : Found) (r : Numeral) (t : Found) (a : Numeral) (lines : List (List ℕ)) → Grants (behindHead (headFrom p n m r t a) lines .answer)
-    → (behindHead (headFrom p n m r t a) (linesOnC lines) ≡ readingOnC (behindHead (headFrom p n m r t a) lines))
-    × ((i : ℕ) → suc i < length (drop headLines lines) → SoilAlone (getD (drop headLines lines) i []) (map cForU (getD (drop headLines lines) i [])))
+abbrev HeadOnC : List (List ℕ) → Found → Found → Found → Numeral → Found → Numeral → Type 0
+HeadOnC lines p n m r t a =
+    Grants (behindHead (headFrom p n m r t a) lines .answer)
+    → (behindHead (headFrom p n m r t a) (linesOnC lines) ≡ readingOnC (behindHead (headFrom p n m r t a) lines)) × Alone (drop headLines lines)
+
+head-on-c : (lines : List (List ℕ)) (p n m r t a : ℕ) → HeadOnC lines (At p) (At n) (At m) (Is r) (At t) (Is a)
 unfolding headFrom behindHead
-from-on-c p n m r t a lines g =
-    head-reads
-    (λ p n m r t a. Grants (behindHead (headFrom p n m r t a) lines .answer) → (behindHead (headFrom p n m r t a) (linesOnC lines) ≡ readingOnC (behindHead (headFrom p n m r t a) lines)) × ((i : ℕ) → suc i < length (drop headLines lines) → SoilAlone (getD (drop headLines lines) i []) (map cForU (getD (drop headLines lines) i []))))
-    (λ p n m r t a h. (
-      rw (drop-map (map cForU) headLines lines) (areas-on-c _ (drop headLines lines) (headLines + 1) emptySite h),
-      areas-alone _ (drop headLines lines) (headLines + 1) emptySite h,
-    ))
-    p n m r t a lines g g
+head-on-c lines p n m r t a h = (
+  rw (drop-map (map cForU) headLines lines) (areas-on-c _ (drop headLines lines) (headLines + 1) emptySite h),
+  areas-alone _ (drop headLines lines) (headLines + 1) emptySite h,
+)
 
 module _ (lines : List (List ℕ)) (g : Grants (behindHead (headOf lines) lines .answer)) where
-  behind-on-c : behindHead (headOf (linesOnC lines)) (linesOnC lines) ≡ readingOnC (behindHead (headOf lines) lines)
+  together : (behindHead (headOf lines) (linesOnC lines) ≡ readingOnC (behindHead (headOf lines) lines)) × Alone (drop headLines lines)
   unfolding headOf
-  behind-on-c = rw (head-said lines g) (from-on-c _ _ _ _ _ _ lines g .0)
+  together = head-reads (HeadOnC lines) (head-on-c lines) _ _ _ _ _ _ lines g g
+
+  behind-on-c : behindHead (headOf (linesOnC lines)) (linesOnC lines) ≡ readingOnC (behindHead (headOf lines) lines)
+  behind-on-c = rw (head-said lines g) (together .0)
 
   pub lines-alone : (k : ℕ) → headLines ≤ k → suc k < length lines → SoilAlone (getD lines k []) (map cForU (getD lines k []))
-  unfolding headOf
   lines-alone k low high =
       let i : headLines + (k - headLines) ≡ k = omega arith in
       let l = length-drop headLines lines in
-      rw (getD-drop headLines lines (k - headLines) [], i) at (from-on-c _ _ _ _ _ _ lines g .1 (k - headLines) (omega arith))
+      rw (getD-drop headLines lines (k - headLines) [], i) at (together .1 (k - headLines) (omega arith))
 
 -- The whole text: it has a head and areas that read,
 pub behind-reads : (text : List ℕ) → Grants (readingOf text .answer) → Grants (behindHead (headOf (linesOf text)) (linesOf text) .answer)
