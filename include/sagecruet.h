@@ -78,7 +78,8 @@ extern "C" {
 #define SAGECRUET_MOST_RATES 8
 
 /* The numbers given back, in an answer text as `answer=N` and in the structs below as `answer`. docs/REFUSALS.md says
- * when each is given and what to do about it. 13 is told by the length 0 of an answer text. */
+ * when each is given and what to do about it. 13 is told by the length 0 of an answer text. 16 and 17 are for site
+ * records, which no call of this header takes: none gives them. */
 enum sagecruet_number {
     SAGECRUET_GRANTED = 0,             /* The job is granted. */
     SAGECRUET_MALFORMED_TEXT = 1,      /* The job cannot be read. */
@@ -95,7 +96,9 @@ enum sagecruet_number {
     SAGECRUET_READING_TOO_FAST = 12,   /* The reading is too fast. */
     SAGECRUET_BUFFER_TOO_SHORT = 13,   /* There is no room for the answer text. */
     SAGECRUET_SITE_FULL = 14,          /* The site has more than 32 sub-areas. */
-    SAGECRUET_PAST_LARGEST = 15        /* A load or a volume is past the largest number. */
+    SAGECRUET_PAST_LARGEST = 15,       /* A load or a volume is past the largest number. */
+    SAGECRUET_NUMBER_NOT_HELD = 16,    /* The site does not hold this number, or its numbers are not in order. */
+    SAGECRUET_NUMBERS_SPENT = 17       /* The site has no number left for a sub-area. */
 };
 
 /* A part of a job text: the place of its first byte, and its length. */

@@ -6,8 +6,9 @@
 The program prints lines of a word and whole numbers, with single spaces between them. Numbers stand for things as the
 rules number them: practices 0 to 8; nutrients P 0, N 1; modes step 0, mix 1; land uses com, ind, hdr, mdr, ldr, hwy,
 for, open, ag 0 to 8; soils A, B, C, CD, D, U 0 to 5, and 6 for impervious cover; soil columns A, B, C, CD, D 0 to 4.
-ANSWER is the number given back, 0 on every line but one; the values beside a refusal would be zeros. BASIS is how the
-percent before it was found: printed 1, between 2, start 3, held 4 (none 0 would stand beside a refusal). In this order:
+ANSWER is the number given back, 0 on every line but that of the sheet and some of the run; the values beside a refusal are
+zeros. BASIS is how the percent before it was found: printed 1, between 2, start 3, held 4 (none 0 would stand beside a
+refusal). In this order:
 
     runoff COLUMN RAIN NUMBER
         the rules' three numbers (A at 55, CD at 110, D at 200), then every number of Table 3-4, row by row, columns in
@@ -35,6 +36,12 @@ percent before it was found: printed 1, between 2, start 3, held 4 (none 0 would
         every rate of Tables 3-1 and 3-2: the load of one acre (area 100), for each nutrient, land use and soil, the
         soils 0 to 6 in turn
 
+    run ANSWER TOTAL COUNT COUNTER NUMBER..
+        a run of adds and removals on one site, a line for each: its answer with the new total area, then of the record that
+        was handed back the count, the counter and the numbers before the count. RUN has the steps: the area of a commercial
+        impervious sub-area to add, a number to remove, and, where these alone do not come to a refusal, another count or
+        counter that is put into the record, which has no line
+
     point PRACTICE NUTRIENT MODE RATE DEPTH PERCENT BASIS ANSWER DEPTH CREDIT BASIS REMOVED
           ANSWER DEPTH CREDIT BASIS VOLUME REMOVED
         on one line: every printed percent of Tables 3-6 to 3-25 but 3-22, for each practice, nutrient, mode, rate and
@@ -46,13 +53,16 @@ percent before it was found: printed 1, between 2, start 3, held 4 (none 0 would
 import struct
 from fractions import Fraction
 from math import ceil, floor
+from typing import NamedTuple
 
 from document import COLUMNS, LAND_USES, NUTRIENTS, PRACTICES, Document, words_for
 
 GRID = range(201)
 MODES = ("step", "mix")
 BASES = ("none", "printed", "between", "start", "held")
+COVERS = ("imp", "per")
 SOILS = COLUMNS + ("U",)
+NO_SOIL = "-"
 FULL = 100_000
 
 # the rules' sheet T, and the modes and rates at which its bases are told
@@ -64,6 +74,20 @@ INCHES, MILLIMETRES = Fraction(1), Fraction(254, 10)
 READINGS = (
     (0.25, INCHES), (0.5, INCHES), (127, MILLIMETRES),
     (0.52, INCHES), (1.02, INCHES), (6.858, MILLIMETRES), (210.058, MILLIMETRES),
+)
+
+# the most sub-areas and the most area of a site, and the counter at which its numbers are spent
+MOST_PARTS, MOST_AREA, SPENT_AT = 32, 1_000_000, 1_000_000
+
+# the steps of the run, and what is put into its record in between
+RUN = (
+    *(("add", area) for area in range(1_000, 1_031)), ("count", 32), ("add", 5), ("remove", 1), ("count", 31),
+    ("add", 1_031), ("add", 1_032), ("add", 0), ("remove", 5), ("count", 32), ("add", 7), ("remove", 6), ("count", 31),
+    ("add", 7), ("remove", 5), ("remove", 34), ("remove", 0),
+    ("counter", 1_000_000), ("add", 1), ("remove", 33), ("add", 0), ("add", 968_509),
+    ("counter", 999_999), ("add", 968_509), ("add", 968_508), ("remove", 999_999), ("add", 1),
+    ("counter", 2_000_000), ("remove", 1), ("count", 32), ("remove", 2), ("count", 33), ("add", 0), ("count", 30),
+    ("counter", 0), ("add", 1), ("counter", 32), ("remove", 2), ("counter", 33), ("remove", 2), ("add", 1_000_001),
 )
 
 
@@ -151,6 +175,83 @@ def volume(rows, parts, depth):
     )
 
 
+class Site(NamedTuple):
+    """A site record: 32 sub-areas (land use, cover, soil, area) and their numbers, of which those before the count are held."""
+    parts: tuple = (("com", "imp", "A", 0),) * MOST_PARTS
+    numbers: tuple = (0,) * MOST_PARTS
+    count: int = 0
+    counter: int = 1
+
+
+def refused_part(part, total):
+    """The refusal of one sub-area more beside a total area: 2 for an area outside 1 to 1,000,000 or a soil that does not suit
+    the cover, 3 for a total that would pass 1,000,000; else 0."""
+    _, cover, soil, area = part
+    if not 1 <= area <= MOST_AREA or (cover == "imp") != (soil == NO_SOIL):
+        return 2
+    return 3 if total + area > MOST_AREA else 0
+
+
+def judged(site):
+    """The number given back for a record, and its total area: 14 for a count above 32, then 2 and 3 at each sub-area in turn,
+    then 16 for a counter of 0 and for numbers that do not rise strictly from at least 1 and stay below the counter."""
+    total = 0
+    if site.count > MOST_PARTS:
+        return 14, 0
+    for part in site.parts[:site.count]:
+        why = refused_part(part, total)
+        if why:
+            return why, 0
+        total += part[-1]
+    rising = (0, *site.numbers[:site.count], site.counter)
+    if any(above <= below for below, above in zip(rising, rising[1:])):
+        return 16, 0
+    return 0, total
+
+
+def added(site, part):
+    """What an add gives: the number given back, the number of the sub-area, the new total area, and the site. The record is
+    judged, then 2 is tried, 14 for a site that holds 32, 17 for a counter of 1,000,000 or more, 3."""
+    why, total = judged(site)
+    if not why:
+        why = refused_part(part, total)
+        if why != 2 and site.count == MOST_PARTS:
+            why = 14
+        elif why != 2 and site.counter >= SPENT_AT:
+            why = 17
+    if why:
+        return why, 0, 0, site
+    at, number = site.count, site.counter
+    parts, numbers = list(site.parts), list(site.numbers)
+    parts[at], numbers[at] = part, number
+    return 0, number, total + part[-1], Site(tuple(parts), tuple(numbers), at + 1, number + 1)
+
+
+def removed(site, number):
+    """What a removal gives, in the same form: the record is judged, then 16 is tried for a number that is not held. Those behind
+    it close up in order, and places past the new count keep what they held."""
+    why, total = judged(site)
+    held = site.numbers[:site.count]
+    if why or number not in held:
+        return why or 16, 0, 0, site
+    at, last = held.index(number), site.count - 1
+    parts, numbers = list(site.parts), list(site.numbers)
+    for places in (parts, numbers):
+        places[at:last] = places[at + 1:last + 1]
+    return 0, 0, total - site.parts[at][-1], Site(tuple(parts), tuple(numbers), last, site.counter)
+
+
+def run_of_steps():
+    site = Site()
+    for what, number in RUN:
+        if what in ("count", "counter"):
+            site = site._replace(**{what: number})
+            continue
+        part = "com", "imp", NO_SOIL, number
+        answer, _, total, site = added(site, part) if what == "add" else removed(site, number)
+        yield "run", answer, total, site.count, site.counter, *site.numbers[:site.count]
+
+
 def first_break(depths, rates, percents):
     """The test of a sheet whose lengths are right: (0, 0, 0), or 5 with the list and the place."""
     for number, values, most in ((1, depths, 200), (2, [] if rates == [0] else rates, 10_000)):
@@ -203,6 +304,7 @@ def output(document):
         for u, use in enumerate(LAND_USES):
             for s, soil in enumerate(SOILS + (None,)):
                 yield "load", n, u, s, 0, 100 * export_rate(rates[nutrient], use, soil)
+    yield from run_of_steps()
 
     acre = [("com", None, 100)]
     for practice in range(len(PRACTICES)):

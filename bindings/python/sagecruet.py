@@ -36,7 +36,8 @@ from decimal import Decimal, InvalidOperation
 from pathlib import Path
 from typing import NamedTuple
 
-# The words of the numbers given back, as docs/words.tsv has them; a test holds them to it.
+# The words of the numbers given back, as docs/words.tsv has them; a test holds them to it. 16 and 17 are for site records, which no
+# function of this module takes: none gives them.
 REFUSALS = {
     0: "The job is granted.",
     1: "The job cannot be read.",
@@ -54,6 +55,8 @@ REFUSALS = {
     13: "There is no room for the answer text.",
     14: "The site has more than 32 sub-areas.",
     15: "A load or a volume is past the largest number.",
+    16: "The site does not hold this number, or its numbers are not in order.",
+    17: "The site has no number left for a sub-area.",
 }
 
 # How a percent was found, by the numbers that the library gives; docs/words.tsv has them too. printed: the depth is one of the

@@ -21,9 +21,9 @@ struct Seen {
     compared: u64,
     differed: u64,
     /// How often each number was given back by a job, by a sheet's percent and by a reading.
-    jobs: [u64; 16],
-    percents: [u64; 16],
-    readings: [u64; 16],
+    jobs: [u64; 18],
+    percents: [u64; 18],
+    readings: [u64; 18],
     /// How often each basis stood in the text of a granted job and beside a granted percent, and each list beside
     /// refusal 5 of a percent.
     job_bases: [u64; 5],

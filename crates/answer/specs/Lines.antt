@@ -50,4 +50,4 @@ longest = length (bytes "answer=0\nload=\ndepth=\ncredit=\nbasis=between\nvolume
 
 -- the length of the longest text of a refused outcome
 abbrev pub longestRefused : ℕ
-longestRefused = length (bytes "answer=15\nline=\n") + widest
+longestRefused = length (bytes "answer=17\nline=\n") + widest

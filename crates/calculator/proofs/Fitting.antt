@@ -1,6 +1,6 @@
 -- The refusal of a text is the one that fits: that of its reading, or that of its task.
 -- Assumes nothing.
-use Prim.Native.Nat.{ℕ}
+use Prim.Native.Nat.{ℕ, _<_}
 use mathlib.Core.Bool.{Bool, true, false}
 use mathlib.Core.List.{List, [], _∷_}
 use mathlib.Core.Logic.{_⊎_, inl, inr, ⊎-elim, _↔_}
@@ -40,22 +40,39 @@ use Rattle.job.specs.declared.JobAnswer.{JobAnswer}
 use Rattle.job.specs.declared.JobAnswer.the-variants as job
 use Rattle.job.specs.Reading.{readingOf, given as readingGiven}
 use Rattle.job.proofs.Promises.{site-beside}
+use Rattle.job.proofs.Refusals.{refused-numbers}
 use Rattle.answer.specs.declared.Outcome.{Outcome}
 use Rattle.answer.specs.declared.Outcome.the-variants.{Granted, Refused, BadSheet}
 use Rattle.answer.specs.Outcomes.{given, faultLine}
 use Rattle.calculator.specs.Outcome.{ofLoad, ofCredit, ofLoadJob, ofTask, ofReading, outcomeOf}
-use Rattle.calculator.specs.Promises.{Answered, FaultLine, Reads, InALine, RefusalFits, LoadJob}
+use Rattle.calculator.specs.Promises.{Answered, FaultLine, Reads, InALine, RefusalFits, NeverForNumbers, LoadJob}
 use Rattle.site.proofs.Promises.{given-some}
 use Rattle.calculator.proofs.Finding.{does-not-read}
 use Rattle.calculator.proofs.InTexts.{worked-out, same-given, no-line}
 
--- A number that is none of those four does not arise in a line.
+-- A number that is none of those does not arise in a line,
 not-in-a-line : (n : ℕ) → elsewhere n ≡ true → InALine n → ⊥
 not-in-a-line n h l =
     ⊎-elim (λ (e : n ≡ 1). never-both (rw e at h) refl)
     (⊎-elim (λ (e : n ≡ 2). never-both (rw e at h) refl)
     (⊎-elim (λ (e : n ≡ 3). never-both (rw e at h) refl) (λ (e : n ≡ 14). never-both (rw e at h) refl)))
     l
+
+-- and is not given for numbers of sub-areas; nor is one that arises in a line.
+abbrev NotForNumbers : ℕ → Type 0
+NotForNumbers n = (n ≡ numberOf refused.NumberNotHeld → ⊥) × (n ≡ numberOf refused.NumbersSpent → ⊥)
+
+not-for-numbers : (n : ℕ) → elsewhere n ≡ true → NotForNumbers n
+not-for-numbers n h = (λ e. never-both (rw e at h) refl, λ e. never-both (rw e at h) refl)
+
+line-not-for-numbers : (n : ℕ) → InALine n → NotForNumbers n
+line-not-for-numbers n l =
+    ⊎-elim (λ (e : n ≡ 1). apart (omega arith))
+    (⊎-elim (λ (e : n ≡ 2). apart (omega arith)) (⊎-elim (λ (e : n ≡ 3). apart (omega arith)) (λ (e : n ≡ 14). apart (omega arith))))
+    l
+  where
+    apart : n < 16 → NotForNumbers n
+    apart h = (λ e. omega arith, λ e. omega arith)
 
 credit-elsewhere : (sheet : Sheet) (wanted : Wanted) (n : Nutrient) (s : Site) (mode : Mode) (r : ℕ) → areaGiven (judged s) .0 ≡ granted
     → elsewhere (creditGiven (answerOf sheet wanted n s mode r) .answer) ≡ true
@@ -150,3 +167,15 @@ refusal-fits sheet text = (
     other-than-5 (Granted f) h = (refl, refl)
     other-than-5 (Refused why k) h = (refl, refl)
     other-than-5 (BadSheet list place) h = absurd (h refl)
+
+pub never-for-numbers : NeverForNumbers
+never-for-numbers sheet text = told (readingOf text .answer) refl
+  where
+    told : (a : JobAnswer) → readingOf text .answer ≡ a → NotForNumbers (Answered sheet text .answer)
+    told (job.Refused why k) h =
+        rw (← does-not-read sheet text refl why k h)
+        (line-not-for-numbers (numberOf why) (rw h at (refused-numbers text (λ e. refusal-not-granted why (rw h at e)))))
+    told (job.Granted j) h =
+        let reads : Reads text j (readingOf text .site) = λ i. record { answer = h i; site = readingOf text .site } in
+        let w = ap given (worked-out sheet text reads) in
+        rw w (not-for-numbers _ (task-elsewhere (j .task) (sheet (j .practice)) j (readingOf text .site) (reads-fine text j (readingOf text .site) reads)))

@@ -4,7 +4,7 @@ use mathlib.Core.List.{flatten}
 use mathlib.Core.Path.{_≡_, refl, _∙_, ap}
 use lib.ListN.{length}
 use Rattle.laws.specs.Sum.{sumOf}
-use Rattle.site.specs.Judging.{judgedFrom, judged}
+use Rattle.site.specs.Judging.{judgedFrom, risesTo, judged}
 use Rattle.site.specs.Adding.{addAnswer, addedTo, added}
 use Rattle.loads.specs.Loads.{loadUnder}
 use Rattle.curve.specs.declared.Basis.the-variants.{None}
@@ -24,7 +24,7 @@ use Rattle.calculator.specs.Outcome.{ofLoadJob, byTables, outcomeOf}
 use Rattle.calculator.specs.Promises.{sampleJob, sampleText, SampleAnswered, SampleLong}
 
 sample-outcome : outcomeOf byTables sampleJob ≡ Granted (figures 1_568_350 0 0 None 0 0)
-unfolding sumOf judgedFrom judged addAnswer addedTo added loadUnder partOf indexOf joined pieces sameOf placeFrom digitsFrom numeralOf valueOf headFrom headOf subAreaFrom subAreaOf addedLine areasFrom behindHead readingOf ofLoadJob outcomeOf
+unfolding sumOf judgedFrom risesTo judged addAnswer addedTo added loadUnder partOf indexOf joined pieces sameOf placeFrom digitsFrom numeralOf valueOf headFrom headOf subAreaFrom subAreaOf addedLine areasFrom behindHead readingOf ofLoadJob outcomeOf
 sample-outcome = refl
 
 sample-text : answerText (Granted (figures 1_568_350 0 0 None 0 0)) ≡ sampleText

@@ -8,7 +8,7 @@ use mathlib.Core.Path.{_≡_}
 use lib.ListN.{length, drop}
 use Rattle.laws.specs.Text.{bytes}
 use Rattle.refusal.specs.declared.Refusal.{Refusal}
-use Rattle.refusal.specs.declared.Refusal.the-variants.{MalformedText, UnfitSubArea, TotalAreaPassed, UnfitSheet, AmountOutOfRange, SiteFull}
+use Rattle.refusal.specs.declared.Refusal.the-variants.{MalformedText, UnfitSubArea, TotalAreaPassed, UnfitSheet, AmountOutOfRange, SiteFull, NumberNotHeld, NumbersSpent}
 use Rattle.refusal.specs.Refusal.{numberOf, granted}
 use Rattle.site.specs.declared.Site.{Site}
 use Rattle.site.specs.Parts.{partsOf}
@@ -86,6 +86,12 @@ RefusalFits =
     → (((Answered sheet text .answer ≡ number) × (FaultLine sheet text ≡ line)) ↔ (readingGiven (readingOf text .answer) ≡ (number, line))))
     × ((j : Job) (s : Site) → Reads text j s → FaultLine sheet text ≡ 0)
     × ((Answered sheet text .answer ≡ numberOf UnfitSheet → ⊥) → (Answered sheet text .list ≡ 0) × (Answered sheet text .place ≡ 0))
+
+-- The numbers of sub-areas are no matter of a job: those of its site are in order, and there are enough, so no text is refused 16 or 17.
+abbrev pub NeverForNumbers : Type 0
+NeverForNumbers =
+    (sheet : ℕ → Sheet) (text : List ℕ)
+    → (Answered sheet text .answer ≡ numberOf NumberNotHeld → ⊥) × (Answered sheet text .answer ≡ numberOf NumbersSpent → ⊥)
 
 -- Demand 2, of a load job: it is granted exactly where its amount is 0, since 15 does not arise, and gives the load of its site and zeros
 -- for the other four, with no basis; with another amount it is refused 9.

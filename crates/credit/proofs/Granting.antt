@@ -55,6 +55,7 @@ accepted sheet wanted n s mode r granting = told (judged s) refl granting
           count = f .0;
           each-fits = f .1;
           total = let e = f .2 in let l = f .3 in omega arith;
+          numbers = f .4;
           there = sheet-there sheet wanted n (partsOf s) mode r g;
           usable = o .accepted;
           impervious = o .within .some-impervious;
@@ -81,7 +82,7 @@ opened sheet n s mode r a =
             load-within = load-within n (partsOf s) (a .total);
             volumes-within = fits (partsOf s) (a .total);
           };
-      works = λ wanted. rw (has-judged s (record { 0 = totalArea (partsOf s) }) (a .count) (a .each-fits) refl (a .total)) (sheet-works sheet wanted n (partsOf s) mode r (a .there) (a .usable));
+      works = λ wanted. rw (has-judged s (record { 0 = totalArea (partsOf s) }) (a .count) (a .each-fits) refl (a .total) (a .numbers)) (sheet-works sheet wanted n (partsOf s) mode r (a .there) (a .usable));
     }
 
 pub credit-granted-exactly : CreditGrantedExactly

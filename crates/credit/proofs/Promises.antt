@@ -26,8 +26,9 @@ use Rattle.curve.specs.Curve.{depthReaching}
 use Rattle.credit.specs.Credit.{figuresOf}
 use Rattle.credit.specs.Answers.{Sheet, credit, size, answerOf, given, published}
 use Rattle.site.proofs.Promises as site
+use Rattle.site.proofs.Alike.{past-count-unread as record-past-count}
 use Rattle.published.proofs.FasterRates.{none-falls-with-rate}
-use Rattle.credit.specs.Promises.{depthsIn, ratesIn, percentsIn, percentOn, basisOn, CreditIsByTheTables, SizeIsByTheTables, MoreStorageNeverLess, HigherTargetNeverSmaller, SizedIsLeast, UnreachableExactly, FasterSoilNeverLess, FasterSoilOnTheTables, SizingAgrees, PastCountUnread}
+use Rattle.credit.specs.Promises.{depthsIn, ratesIn, percentsIn, percentOn, basisOn, CreditIsByTheTables, SizeIsByTheTables, MoreStorageNeverLess, HigherTargetNeverSmaller, SizedIsLeast, UnreachableExactly, FasterSoilNeverLess, FasterSoilOnTheTables, SizingAgrees, PastCountUnread, BySubAreasAlone}
 use Rattle.credit.proofs.Depths.{depth-mono, depth-below, depth-back, before-reaching, reaching-mono, reaching-on-grid, reaching-reaches}
 use Rattle.credit.proofs.Opening.{Open, granted-opens, credit-within, credit-is, size-within, size-is, size-unreachable, percent-mono}
 
@@ -127,4 +128,8 @@ faster-soil-on-the-tables practice n s mode r q v =
 
 pub past-count-unread : PastCountUnread
 unfolding answerOf
-past-count-unread sheet wanted n s t mode r a = rw (site.past-count-unread s t a .0, a .parts)
+past-count-unread sheet wanted n s t mode r a = rw (record-past-count s t a .0, a .parts)
+
+pub by-sub-areas-alone : BySubAreasAlone
+unfolding answerOf
+by-sub-areas-alone sheet wanted n s t mode r a = rw (site.by-sub-areas-alone s t a .0, a .parts)

@@ -1,4 +1,5 @@
--- Of a record that is judged fine, crediting and sizing are refused nothing that arises in a line of a job: not 1, 2, 3 or 14.
+-- Of a record that is judged fine, crediting and sizing are refused nothing that arises in a line of a job, 1, 2, 3 or 14, and nothing
+-- that numbers of sub-areas are refused, 16 or 17.
 -- Assumes nothing.
 use Prim.Native.Nat.{ℕ}
 use mathlib.Core.Bool.{Bool, true, false, _&&_, not}
@@ -41,9 +42,9 @@ use Rattle.credit.proofs.Passing.{credited, sized, reached}
 use Rattle.credit.proofs.Opening.{rateTests}
 use Rattle.credit.proofs.Admitting.{onCurves, curves-turn}
 
--- a number that is not 1, 2, 3 or 14
+-- a number that is none of these
 abbrev pub elsewhere : ℕ → Bool
-elsewhere n = not (eqb n 1) && not (eqb n 2) && not (eqb n 3) && not (eqb n 14)
+elsewhere n = not (eqb n 1) && not (eqb n 2) && not (eqb n 3) && not (eqb n 14) && not (eqb n 16) && not (eqb n 17)
 
 -- each of the tests refuses with such a number
 abbrev Elsewhere : List (Bool × Refusal) → Type 0

@@ -1,7 +1,8 @@
 -- Laws of the one walk over a record that judges it, gathers its six areas and sums its load.
 -- Assumes nothing.
 use Prim.Native.Nat.{ℕ, _+_, _*_, _≤_, _<_}
-use mathlib.Core.List.{List}
+use mathlib.Core.List.{List, [], _∷_}
+use mathlib.Core.Bool.{Bool, true, false, not}
 use mathlib.Core.Path.{_≡_, refl, sym, _∙_, ap}
 use native.Mathlib.Nat.{lt-of-le-of-lt, mul-le-mul-left}
 use native.Mathlib.Omega.{arith}
@@ -11,19 +12,18 @@ use lib.Dec.{lit<}
 use lib.ListN.{length, getD, set, replicate}
 use Rattle.laws.specs.Sum.{sumOf}
 use Rattle.refusal.specs.declared.Refusal.{Refusal}
-use Rattle.refusal.specs.declared.Refusal.the-variants.{SiteFull}
+use Rattle.refusal.specs.declared.Refusal.the-variants.{SiteFull, NumberNotHeld}
 use Rattle.units.specs.declared.Area.{Area}
 use Rattle.units.specs.Limits.{mostArea}
 use Rattle.site.specs.declared.Site.{Site}
 use Rattle.site.specs.declared.AreaAnswer.{AreaAnswer}
 use Rattle.site.specs.declared.AreaAnswer.the-variants.{Granted, Refused}
-use Rattle.site.specs.Parts.{partsOf, areaOf, blank, mostParts}
-use Rattle.site.specs.Judging.{judged}
-use Rattle.site.specs.Adding.{addAnswer}
+use Rattle.site.specs.Parts.{partsOf, numbersOf, areaOf, blank, mostParts}
+use Rattle.site.specs.Judging.{judgedFrom, numbered, judged}
 use Rattle.site.proofs.Parts.{Whole}
 use Rattle.site.proofs.Sums.{Summed, sum-starts, sum-next, sum-ends}
-use Rattle.site.proofs.Adding.{grants}
-use Rattle.site.proofs.Walking.{Running, overfull, starts, passes, refuses, ends}
+use Rattle.site.proofs.Tests.{try-grants}
+use Rattle.site.proofs.Walking.{Running, overfull, starts, passes, refuses, numbers-there, numbers-counted, ends-fine, ends-unnumbered}
 use Rattle.loads.specs.Rates.{tableMost, ratePlace}
 use Rattle.loads.specs.Loads.{partLoad}
 use Rattle.volume.specs.Areas.{noArea, areaAt, areaPlace, totalOf}
@@ -48,11 +48,11 @@ module _ (rates : List ℕ) (s : Site) where
   pub survey-full : (g : Survey) → g ≡ unsurveyed SiteFull → mostParts < s .count → g ≡ surveyed rates s
   survey-full g n h = stops g SiteFull n (overfull s h)
 
-  pub survey-starts : Whole s → Surveying rates s 0 0 0 (replicate 6 noArea)
+  pub survey-starts : Whole s → length (s .numbers) ≡ mostParts → Surveying rates s 0 0 0 (replicate 6 noArea)
   unfolding sumOf
-  survey-starts w =
+  survey-starts w m =
       record {
-        running = starts s w;
+        running = starts s w m;
         gathering = gather-starts s w;
         summed = sum-starts (partLoad rates) s w;
         counted = refl;
@@ -60,15 +60,26 @@ module _ (rates : List ℕ) (s : Site) where
       }
 
   module _ (i : ℕ) (total : Area) (load : ℕ) (xs : List Area) (r : Surveying rates s i (total .0) load xs) where
-    pub survey-ends : s .count ≤ i
-        → record { answer = Granted total; areas = record { of = xs }; load = record { 0 = load } } ≡ surveyed rates s
-    unfolding surveyed
-    survey-ends h =
-        rw (gather-ends s i xs (r .gathering) h, sum-ends (partLoad rates) s i load (r .summed) h)
-        (ap (surveyedBy rates (partsOf s)) (ends s i total (r .running) h))
+    -- the numbers of the sub-areas are lent
+    pub survey-numbers : s .count ≤ length (s .numbers)
+    survey-numbers = numbers-there s i (total .0) (r .running)
+
+    pub survey-counted : s .count ≡ length (numbersOf s)
+    survey-counted = numbers-counted s i (total .0) (r .running)
+
+    module _ (h : s .count ≤ i) {b : Bool} (e : b ≡ numbered s) where
+      pub survey-unnumbered : (g : Survey) → g ≡ unsurveyed NumberNotHeld → not b ≡ true → g ≡ surveyed rates s
+      survey-unnumbered g n f = stops g NumberNotHeld n (ends-unnumbered s i total (r .running) h e f)
+
+      pub survey-ends : not b ≡ false
+          → record { answer = Granted total; areas = record { of = xs }; load = record { 0 = load } } ≡ surveyed rates s
+      unfolding surveyed
+      survey-ends f =
+          rw (gather-ends s i xs (r .gathering) h, sum-ends (partLoad rates) s i load (r .summed) h)
+          (ap (surveyedBy rates (partsOf s)) (ends-fine s i total (r .running) h e f))
 
     -- the turn at the sub-area of place i, by the answer to it
-    module _ (h : i < s .count) (x : AreaAnswer) (e : x ≡ addAnswer i (total .0) (getD (s .parts) i blank)) where
+    module _ (h : i < s .count) (x : AreaAnswer) (e : x ≡ judgedFrom (total .0) (getD (s .parts) i blank ∷ [])) where
       pub survey-refused : (g : Survey) (why : Refusal) → g ≡ unsurveyed why → x ≡ Refused why → g ≡ surveyed rates s
       survey-refused g why n f = stops g why n (refuses s i (total .0) (r .running) h e f)
 
@@ -77,10 +88,10 @@ module _ (rates : List ℕ) (s : Site) where
         a = areaOf (getD (s .parts) i blank)
 
         within : total .0 + a ≤ mostArea
-        within = grants i (total .0) (getD (s .parts) i blank) more (sym e ∙ f) .within
+        within = try-grants (total .0) (getD (s .parts) i blank) more (sym e ∙ f) .0
 
         more-is : total .0 + a ≡ more .0
-        more-is = ap (λ (y : Area). y .0) (grants i (total .0) (getD (s .parts) i blank) more (sym e ∙ f) .new-total)
+        more-is = try-grants (total .0) (getD (s .parts) i blank) more (sym e ∙ f) .1
 
         -- What the area is added to, with it, is at most the largest area.
         pub area-fits : (k : ℕ) → Fits w64 (areaAt xs k + a)

@@ -1,4 +1,4 @@
--- Rules, "The numbers given back": credit and size judge the record before all else (14, 2, 3), then try 4 or 5, 6, 7, 8, 9, 15 and 10.
+-- Rules, "The numbers given back": credit and size judge the record before all else (14, 2, 3, 16), then try 4 or 5, 6, 7, 8, 9, 15 and 10.
 -- Assumes nothing.
 use Prim.Native.Nat.{ℕ}
 use mathlib.Core.List.{List, [], _∷_}

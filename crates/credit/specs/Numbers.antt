@@ -25,10 +25,10 @@ abbrev pub sheetT : Sheet
 sheetT = lent depthsT ratesT percentsT
 
 abbrev pub lotSite : Site
-lotSite = record { parts = lot ++ replicate 31 blank; count = 1 }
+lotSite = record { parts = lot ++ replicate 31 blank; count = 1; numbers = 1 ∷ replicate 31 0; counter = 2 }
 
 abbrev pub yardSite : Site
-yardSite = record { parts = yard ++ replicate 29 blank; count = 3 }
+yardSite = record { parts = yard ++ replicate 29 blank; count = 3; numbers = 1 ∷ 2 ∷ 3 ∷ replicate 29 0; counter = 4 }
 
 -- of a percent on T: number, percent, list and place
 abbrev pub percentOnT : Mode → ℕ → ℕ → List ℕ

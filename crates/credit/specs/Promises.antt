@@ -14,8 +14,8 @@ use Rattle.units.specs.declared.Nutrient.{Nutrient}
 use Rattle.units.specs.Limits.{largest, mostArea, mostPercent, highestDepth}
 use Rattle.site.specs.declared.Site.{Site}
 use Rattle.site.specs.Parts.{mostParts, partsOf, totalArea, imperviousArea}
-use Rattle.site.specs.Judging.{judged, given as areaGiven}
-use Rattle.site.specs.Promises.{allFit, Alike}
+use Rattle.site.specs.Judging.{numbered, judged, given as areaGiven}
+use Rattle.site.specs.Promises.{allFit, Alike, SameSubAreas}
 use Rattle.loads.specs.Rates as rates
 use Rattle.loads.specs.Loads.{loadOf, removedOf}
 use Rattle.volume.specs.Volume.{volumeOf, depthOf}
@@ -65,13 +65,15 @@ abbrev pub isThere : Sheet → Nutrient → Bool
 isThere (lent ds rs ps) n = true
 isThere (published practice) n = isPublished practice n
 
--- What is refused nothing, by the rules: a record of at most 32 sub-areas, each of which fits, of at most 1,000,000 in all; a sheet
--- that is there and keeps the rules; a rate that it takes, within 10,000 (0 on a sheet without rates) and not below its slowest; and
--- some impervious area. 15 does not arise: within these limits no load and no V(200) passes 10^13.
+-- What is refused nothing, by the rules: a record of at most 32 sub-areas, each of which fits, of at most 1,000,000 in all, whose
+-- numbers rise strictly from at least 1 and stay below its counter; a sheet that is there and keeps the rules; a rate that it takes,
+-- within 10,000 (0 on a sheet without rates) and not below its slowest; and some impervious area. 15 does not arise: within these
+-- limits no load and no V(200) passes 10^13.
 pub record Accepted (sheet : Sheet) (n : Nutrient) (s : Site) (r : ℕ) : Type 0 where
   pub count : s .count ≤ mostParts
   pub each-fits : allFit (partsOf s) ≡ true
   pub total : totalArea (partsOf s) ≤ mostArea
+  pub numbers : numbered s ≡ true
   pub there : isThere sheet n ≡ true
   pub usable : Usable (depthsIn sheet) (ratesIn sheet n) (percentsIn sheet n) r
   pub impervious : 0 < imperviousArea (partsOf s)
@@ -217,4 +219,11 @@ abbrev pub PastCountUnread : Type 0
 PastCountUnread =
     (sheet : Sheet) (wanted : Wanted) (n : Nutrient) (s t : Site) (mode : Mode) (r : ℕ)
     → Alike s t
+    → answerOf sheet wanted n s mode r ≡ answerOf sheet wanted n t mode r
+
+-- Two records that are judged fine and hold the same sub-areas have the same credit and the same size, whatever their numbers.
+abbrev pub BySubAreasAlone : Type 0
+BySubAreasAlone =
+    (sheet : Sheet) (wanted : Wanted) (n : Nutrient) (s t : Site) (mode : Mode) (r : ℕ)
+    → SameSubAreas s t
     → answerOf sheet wanted n s mode r ≡ answerOf sheet wanted n t mode r

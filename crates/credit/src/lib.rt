@@ -330,7 +330,8 @@ fn no_survey(why: Refusal) -> Survey
     }
 }
 
-// One walk over a record judges it, gathers its six areas and sums its load under a table of rates.
+// One walk over a record tries its sub-areas, gathers their six areas and sums their load under a table of rates; then its numbers are
+// tried.
 fn walk_under(site: Site, rates: &[u16; 16]) -> Survey
     ensures { λ r. ⌜ r ≡ surveyed (now (rates .entry)) site ⌝ }
 {
@@ -344,7 +345,7 @@ fn walk_under(site: Site, rates: &[u16; 16]) -> Survey
     let mut i = 0;
     while i < count {
         let part = site.parts[i];
-        let answer = site::add_answer(i, total, part);
+        let answer = site::try_part(total, part);
         match answer {
             AreaAnswer::Granted(more) => {
                 let area = part.area;
@@ -359,6 +360,10 @@ fn walk_under(site: Site, rates: &[u16; 16]) -> Survey
                 return no_survey(why);
             }
         }
+    }
+    let numbers = site.numbers;
+    if !site::numbered(&numbers[..count], site.counter) {
+        return no_survey(Refusal::NumberNotHeld);
     }
     Survey {
         answer: AreaAnswer::Granted(total),

@@ -5,20 +5,18 @@ use mathlib.Core.Bool.{Bool, true, false, cond, _&&_}
 use mathlib.Core.List.{List, [], _∷_}
 use mathlib.Core.Path.{_≡_, refl, _∙_, ap}
 use lib.Dec.{eqb, ltb, leb}
-use lib.ListN.{length, drop, length-set}
+use lib.ListN.{length, drop}
 use Rattle.refusal.specs.declared.Refusal.the-variants.{MalformedText}
 use Rattle.refusal.specs.Refusal.{numberOf, granted}
 use Rattle.refusal.proofs.Numbers.{refusal-not-granted}
 use Rattle.units.specs.declared.Area.{Area}
 use Rattle.site.specs.declared.Site.{Site}
-use Rattle.site.specs.declared.SubArea.{SubArea}
 use Rattle.site.specs.declared.AreaAnswer.{AreaAnswer}
 use Rattle.site.specs.declared.AreaAnswer.the-variants as area
-use Rattle.site.specs.Parts.{emptySite}
+use Rattle.site.specs.Parts.{numbersOf, emptySite}
 use Rattle.site.specs.Judging.{judged, afterJudging, given as givenArea}
-use Rattle.site.specs.Adding.{kept, settled, addAnswer, addedTo, added}
-use Rattle.site.specs.Promises.{InMemory}
-use Rattle.site.proofs.Promises.{given-granted, empty-judged, granted-holds}
+use Rattle.site.specs.Adding.{added}
+use Rattle.site.specs.Runs.{upFrom}
 use Rattle.text.specs.Pieces.{lineFeed, startOf, endOf}
 use Rattle.text.proofs.Between.{piece-bytes, last-ends, empty-starts}
 use Rattle.job.specs.declared.Job.{Job}
@@ -34,66 +32,49 @@ use Rattle.job.specs.Head.{headOf}
 use Rattle.job.specs.Areas.{areaIn, addedLine, refusedAt, endedAt, areasFrom}
 use Rattle.job.specs.Reading.{mostBytes, headLines, behindHead, readingOf, given}
 use Rattle.job.specs.Fault.{lineSpan, faultIn, faultOf}
-use Rattle.job.specs.Promises.{SiteBeside, OffendingLine, MissingLine}
+use Rattle.job.specs.Promises.{SiteBeside, NumberedInOrder, OffendingLine, MissingLine}
+use Rattle.job.proofs.Building.{Built, built-none, built-more}
 
--- a site that is judged fine stands beside a job, the empty site beside a refusal
+-- a site that is built by granted adds stands beside a job, the empty site beside a refusal
 abbrev Beside : JobAnswer → Site → Type 0
-Beside (Granted job) site = (total : Area) × (judged site ≡ area.Granted total)
+Beside (Granted job) site = (total : Area) × Built site total
 Beside (Refused why line) site = site ≡ emptySite
 
 abbrev Sound : Reading → Type 0
 Sound r = Beside (r .answer) (r .site)
 
--- an add keeps the 32 places of a record
-memory-kept : (s : Site) (p : SubArea) → InMemory s → InMemory (added s p .site)
-unfolding added addedTo
-memory-kept s p z = judging (judged s)
+-- the areas end at a site that is built, or are refused
+ended-sound : (job : Job) (rest : List ℕ) (k : ℕ) (s : Site) (total : Area) → Built s total → Sound (endedAt job rest k s)
+ended-sound job rest k s total b = at (eqb (length rest) 0 && leb 1 (s .count))
   where
-    told : (x : AreaAnswer) → InMemory (settled s p x .site)
-    told (area.Granted more) = length-set (s .parts) (s .count) p ∙ z
-    told (area.Refused why) = z
-
-    judging : (x : AreaAnswer) → InMemory (afterJudging (kept s) (λ total. addedTo s total p) x .site)
-    judging (area.Granted total) = told (addAnswer (s .count) (total .0) p)
-    judging (area.Refused why) = z
-
--- a granted add hands back a record that is judged fine
-fine-kept : (s : Site) (p : SubArea) (total : Area) → InMemory s → added s p .answer ≡ area.Granted total → judged (added s p .site) ≡ area.Granted total
-fine-kept s p total z e =
-    given-granted (judged (added s p .site)) (total .0) (granted-holds s p (total .0) z (ap givenArea e) .1)
-
--- the areas end at a site that is judged fine, or are refused
-ended-sound : (job : Job) (rest : List ℕ) (k : ℕ) (s : Site) (total : Area) → judged s ≡ area.Granted total → Sound (endedAt job rest k s)
-ended-sound job rest k s total j = at (eqb (length rest) 0 && leb 1 (s .count))
-  where
-    at : (b : Bool) → Sound (cond b (record { answer = Granted job; site = s }) (refusedAt k MalformedText))
-    at true = (total, j)
+    at : (e : Bool) → Sound (cond e (record { answer = Granted job; site = s }) (refusedAt k MalformedText))
+    at true = (total, b)
     at false = refl
 
-step-sound : (job : Job) (ls : List (List ℕ)) (k : ℕ) (s : Site) (found : AreaLine)
-    → InMemory s
-    → ((t : Site) (total : Area) → InMemory t → judged t ≡ area.Granted total → Sound (areasFrom job ls (k + 1) t))
+step-sound : (job : Job) (ls : List (List ℕ)) (k : ℕ) (s : Site) (total : Area) (found : AreaLine)
+    → Built s total
+    → ((t : Site) (more : Area) → Built t more → Sound (areasFrom job ls (k + 1) t))
     → Sound (afterJudging (refusedAt k) (λ total. areasFrom job ls (k + 1) (addedLine s found .site)) (addedLine s found .answer))
 unfolding addedLine
-step-sound job ls k s Malformed z later = refl
-step-sound job ls k s (Is p) z later = told (added s p .answer) refl
+step-sound job ls k s total Malformed b later = refl
+step-sound job ls k s total (Is p) b later = told (added s p .answer) refl
   where
     told : (x : AreaAnswer) → added s p .answer ≡ x → Sound (afterJudging (refusedAt k) (λ total. areasFrom job ls (k + 1) (added s p .site)) x)
-    told (area.Granted total) e = later (added s p .site) total (memory-kept s p z) (fine-kept s p total z e)
+    told (area.Granted more) e = later (added s p .site) more (built-more s total b p more e)
     told (area.Refused why) e = refl
 
-areas-sound : (job : Job) (ls : List (List ℕ)) (k : ℕ) (s : Site) (total : Area) → InMemory s → judged s ≡ area.Granted total → Sound (areasFrom job ls k s)
+areas-sound : (job : Job) (ls : List (List ℕ)) (k : ℕ) (s : Site) (total : Area) → Built s total → Sound (areasFrom job ls k s)
 unfolding areasFrom
-areas-sound job [] k s total z j = ended-sound job [] k s total j
-areas-sound job (rest ∷ []) k s total z j = ended-sound job rest k s total j
-areas-sound job (line ∷ next ∷ others) k s total z j =
-    step-sound job (next ∷ others) k s (areaIn (line ∷ next ∷ others)) z
-    (λ t more y i. areas-sound job (next ∷ others) (k + 1) t more y i)
+areas-sound job [] k s total b = ended-sound job [] k s total b
+areas-sound job (rest ∷ []) k s total b = ended-sound job rest k s total b
+areas-sound job (line ∷ next ∷ others) k s total b =
+    step-sound job (next ∷ others) k s total (areaIn (line ∷ next ∷ others)) b
+    (λ t more c. areas-sound job (next ∷ others) (k + 1) t more c)
 
 head-sound : (lines : List (List ℕ)) (h : HeadRead) → Sound (behindHead h lines)
 unfolding behindHead
 head-sound lines (Bad k) = refl
-head-sound lines (Fine job) = areas-sound job (drop headLines lines) 7 emptySite (record { 0 = 0 }) refl empty-judged
+head-sound lines (Fine job) = areas-sound job (drop headLines lines) 7 emptySite (record { 0 = 0 }) built-none
 
 beside : (s : List ℕ) → Sound (readingOf s)
 unfolding readingOf
@@ -107,8 +88,15 @@ pub site-beside : SiteBeside
 site-beside s = told (readingOf s .answer) (readingOf s .site) (beside s)
   where
     told : (x : JobAnswer) (site : Site) → Beside x site → (given x .0 ≡ granted → givenArea (judged site) .0 ≡ granted) × ((given x .0 ≡ granted → ⊥) → site ≡ emptySite)
-    told (Granted job) site b = (λ e. ap (λ (a : AreaAnswer). givenArea a .0) (b .1), λ no. absurd (no refl))
+    told (Granted job) site b = (λ e. ap (λ (a : AreaAnswer). givenArea a .0) (b .1 .fine), λ no. absurd (no refl))
     told (Refused why k) site b = (λ e. absurd (refusal-not-granted why e), λ no. b)
+
+pub numbered-in-order : NumberedInOrder
+numbered-in-order s = told (readingOf s .answer) (readingOf s .site) (beside s)
+  where
+    told : (x : JobAnswer) (site : Site) → Beside x site → given x .0 ≡ granted → (numbersOf site ≡ upFrom 1 (site .count)) × (site .counter ≡ site .count + 1)
+    told (Granted job) site b e = (b .1 .numbers, b .1 .counter)
+    told (Refused why k) site b e = absurd (refusal-not-granted why e)
 
 -- refusal 1 in a line points to that line
 fault-span : (s : List ℕ) (k : ℕ) → given (readingOf s .answer) ≡ (numberOf MalformedText, suc k) → faultOf s ≡ record { from = startOf lineFeed s k; to = endOf lineFeed s k }

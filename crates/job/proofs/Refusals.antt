@@ -11,21 +11,21 @@ use lib.Dec.{eqb, ltb, leb}
 use lib.ListN.{length, drop}
 use Rattle.laws.specs.Turn.{inTurn}
 use Rattle.laws.proofs.Order.{lt-or-le}
-use Rattle.refusal.specs.declared.Refusal.{Refusal}
-use Rattle.refusal.specs.declared.Refusal.the-variants.{MalformedText, UnfitSubArea, TotalAreaPassed, SiteFull}
+use Rattle.refusal.specs.declared.Refusal.the-variants.{MalformedText, UnfitSubArea, TotalAreaPassed, SiteFull, NumbersSpent}
 use Rattle.refusal.specs.Refusal.{numberOf, granted}
 use Rattle.text.specs.declared.Found.{Found}
 use Rattle.text.specs.declared.Found.the-variants.{At, Nothing}
 use Rattle.text.specs.declared.Numeral.{Numeral}
 use Rattle.text.specs.declared.Numeral.the-variants as number
+use Rattle.units.specs.declared.Area.{Area}
 use Rattle.site.specs.declared.Site.{Site}
 use Rattle.site.specs.declared.SubArea.{SubArea}
 use Rattle.site.specs.declared.AreaAnswer.{AreaAnswer}
 use Rattle.site.specs.declared.AreaAnswer.the-variants as area
-use Rattle.site.specs.Parts.{mostParts, partsOf, areaOf, emptySite}
-use Rattle.site.specs.Judging.{fits, hasRoom, judgedFrom, judged, afterJudging}
-use Rattle.site.specs.Adding.{kept, addAnswer, addedTo, added}
-use Rattle.site.proofs.Adding.{add-answers}
+use Rattle.site.specs.Parts.{mostParts, areaOf, emptySite}
+use Rattle.site.specs.Judging.{fits, hasRoom, afterJudging}
+use Rattle.site.specs.Adding.{spentAt, addAnswer, added}
+use Rattle.site.proofs.Adding.{add-answers, add-agrees}
 use Rattle.job.specs.declared.Job.{Job}
 use Rattle.job.specs.declared.HeadRead.{HeadRead}
 use Rattle.job.specs.declared.HeadRead.the-variants.{Fine, Bad}
@@ -39,6 +39,7 @@ use Rattle.job.specs.Areas.{areaIn, addedLine, refusedAt, endedAt, areas
 use Rattle.job.specs.Reading.{mostBytes, headLines, behindHead, readingOf, given}
 use Rattle.job.specs.Fault.{lineSpan, faultIn}
 use Rattle.job.specs.Promises.{RefusedNumbers, RefusedLines, EmptyPart}
+use Rattle.job.proofs.Building.{Built, built-none, built-unspent, built-more}
 
 -- a text's refusals: 1, 2, 3 and 14
 abbrev OfText : ℕ → Type 0
@@ -61,41 +62,21 @@ abbrev Adds : AreaAnswer → Type 0
 Adds (area.Granted total) = Unit {0}
 Adds (area.Refused why) = OfText (numberOf why)
 
-judged-from-adds : (total : ℕ) (ps : List SubArea) → Adds (judgedFrom total ps)
-unfolding judgedFrom
-judged-from-adds total [] = tt
-judged-from-adds total (p ∷ ps) = pick (fits p) (hasRoom total (areaOf p)) (judgedFrom (total + areaOf p) ps) (judged-from-adds (total + areaOf p) ps)
-  where
-    pick : (b d : Bool) (x : AreaAnswer) → Adds x → Adds (inTurn area.Refused x ((b, UnfitSubArea) ∷ (d, TotalAreaPassed) ∷ []))
-    pick true true x h = h
-    pick true false x h = passed
-    pick false d x h = unfit
-
-judged-adds : (s : Site) → Adds (judged s)
-unfolding judged
-judged-adds s = at (leb (s .count) mostParts)
-  where
-    at : (b : Bool) → Adds (inTurn area.Refused (judgedFrom 0 (partsOf s)) ((b, SiteFull) ∷ []))
-    at true = judged-from-adds 0 (partsOf s)
-    at false = full
-
-answer-adds : (count total : ℕ) (p : SubArea) → Adds (addAnswer count total p)
+answer-adds : (count counter total : ℕ) (p : SubArea) → counter < spentAt → Adds (addAnswer count counter total p)
 unfolding addAnswer
-answer-adds count total p = pick (fits p) (ltb count mostParts) (hasRoom total (areaOf p))
+answer-adds count counter total p h = rw (lt-ltb counter spentAt h) (pick (fits p) (ltb count mostParts) (hasRoom total (areaOf p)))
   where
-    pick : (b d e : Bool) → Adds (inTurn area.Refused (area.Granted (record { 0 = total + areaOf p })) ((b, UnfitSubArea) ∷ (d, SiteFull) ∷ (e, TotalAreaPassed) ∷ []))
+    pick : (b d e : Bool)
+        → Adds (inTurn area.Refused (area.Granted (record { 0 = total + areaOf p })) ((b, UnfitSubArea) ∷ (d, SiteFull) ∷ (true, NumbersSpent) ∷ (e, TotalAreaPassed) ∷ []))
     pick true true true = tt
     pick true true false = passed
     pick true false e = full
     pick false d e = unfit
 
-add-adds : (s : Site) (p : SubArea) → Adds (added s p .answer)
-unfolding added
-add-adds s p = at (judged s) (judged-adds s)
-  where
-    at : (x : AreaAnswer) → Adds x → Adds (afterJudging (kept s) (λ total. addedTo s total p) x .answer)
-    at (area.Granted total) h = rw (add-answers s (total .0) p) (answer-adds (s .count) (total .0) p)
-    at (area.Refused why) h = h
+-- An add to a site that is built by granted adds finds neither a refused record nor a spent counter.
+add-adds : (s : Site) (total : Area) (p : SubArea) → Built s total → Adds (added s p .answer)
+add-adds s total p b =
+    rw (← add-agrees s p total (b .fine), add-answers s (total .0) p) (answer-adds (s .count) (s .counter) (total .0) p (built-unspent s total b))
 
 -- a reading is granted, or is one of them with a line that is counted from 1
 abbrev Lined : JobAnswer → Type 0
@@ -109,22 +90,26 @@ ended-lined job rest k s h = at (eqb (length rest) 0 && leb 1 (s .count))
     at true = tt
     at false = (h, malformed)
 
-line-adds : (s : Site) (found : AreaLine) → Adds (addedLine s found .answer)
+step-lined : (job : Job) (ls : List (List ℕ)) (k : ℕ) (s : Site) (total : Area) (found : AreaLine)
+    → 1 ≤ k
+    → Built s total
+    → ((t : Site) (more : Area) → Built t more → Lined (areasFrom job ls (k + 1) t .answer))
+    → Lined (afterJudging (refusedAt k) (λ total. areasFrom job ls (k + 1) (addedLine s found .site)) (addedLine s found .answer) .answer)
 unfolding addedLine
-line-adds s line.Malformed = malformed
-line-adds s (line.Is p) = add-adds s p
-
-areas-lined : (job : Job) (ls : List (List ℕ)) (k : ℕ) (s : Site) → 1 ≤ k → Lined (areasFrom job ls k s .answer)
-unfolding areasFrom
-areas-lined job [] k s h = ended-lined job [] k s h
-areas-lined job (rest ∷ []) k s h = ended-lined job rest k s h
-areas-lined job (first ∷ next ∷ others) k s h =
-    let a = addedLine s (areaIn (first ∷ next ∷ others)) in
-    at (a .answer) (a .site) (line-adds s (areaIn (first ∷ next ∷ others))) (areas-lined job (next ∷ others) (k + 1) (a .site) (omega arith))
+step-lined job ls k s total line.Malformed h b later = (h, malformed)
+step-lined job ls k s total (line.Is p) h b later = told (added s p .answer) refl (add-adds s total p b)
   where
-    at : (x : AreaAnswer) (t : Site) → Adds x → Lined (areasFrom job (next ∷ others) (k + 1) t .answer) → Lined (afterJudging (refusedAt k) (λ total. areasFrom job (next ∷ others) (k + 1) t) x .answer)
-    at (area.Granted total) t a later = later
-    at (area.Refused why) t a later = (h, a)
+    told : (x : AreaAnswer) → added s p .answer ≡ x → Adds x → Lined (afterJudging (refusedAt k) (λ total. areasFrom job ls (k + 1) (added s p .site)) x .answer)
+    told (area.Granted more) e a = later (added s p .site) more (built-more s total b p more e)
+    told (area.Refused why) e a = (h, a)
+
+areas-lined : (job : Job) (ls : List (List ℕ)) (k : ℕ) (s : Site) (total : Area) → 1 ≤ k → Built s total → Lined (areasFrom job ls k s .answer)
+unfolding areasFrom
+areas-lined job [] k s total h b = ended-lined job [] k s h
+areas-lined job (rest ∷ []) k s total h b = ended-lined job rest k s h
+areas-lined job (first ∷ next ∷ others) k s total h b =
+    step-lined job (next ∷ others) k s total (areaIn (first ∷ next ∷ others)) h b
+    (λ t more c. areas-lined job (next ∷ others) (k + 1) t more (omega arith) c)
 
 -- a bad line of the head is counted from 1
 abbrev Counted : HeadRead → Type 0
@@ -144,7 +129,7 @@ head-counted (At i) (At j) (At k) (number.Is x) (At l) (number.Is y) = tt
 behind-lined : (lines : List (List ℕ)) (h : HeadRead) → Counted h → Lined (behindHead h lines .answer)
 unfolding behindHead
 behind-lined lines (Bad k) h = (h, malformed)
-behind-lined lines (Fine job) h = areas-lined job (drop headLines lines) (headLines + 1) emptySite (omega arith)
+behind-lined lines (Fine job) h = areas-lined job (drop headLines lines) (headLines + 1) emptySite (record { 0 = 0 }) (omega arith) built-none
 
 short-lined : (s : List ℕ) → length s ≤ mostBytes → Lined (readingOf s .answer)
 unfolding readingOf headOf

@@ -6,21 +6,20 @@ use mathlib.Core.List.{List, []}
 use mathlib.Core.Path.{_≡_, refl, sym, _∙_, ap}
 use native.Mathlib.Omega.{arith}
 use borrow.Author.Tests.{ne-eqb, le-leb, lt-leb}
-use lib.ListN.{length, drop, length-set, length-drop, drop-of-length-le}
+use lib.ListN.{length, drop, length-drop, drop-of-length-le}
 use Rattle.refusal.specs.declared.Refusal.{Refusal}
 use Rattle.refusal.specs.declared.Refusal.the-variants.{MalformedText}
 use Rattle.units.specs.declared.Area.{Area}
 use Rattle.site.specs.declared.Site.{Site}
 use Rattle.site.specs.declared.SubArea.{SubArea}
-use Rattle.site.specs.declared.Added.{Added}
 use Rattle.site.specs.declared.AreaAnswer.{AreaAnswer}
 use Rattle.site.specs.declared.AreaAnswer.the-variants.{Granted, Refused}
 use Rattle.site.specs.Parts.{emptySite}
 use Rattle.site.specs.Judging.{judged, afterJudging}
 use Rattle.site.specs.Adding.{addAnswer, stored, added}
 use Rattle.site.specs.Promises.{InMemory}
-use Rattle.site.proofs.Adding.{add-stores, add-keeps, add-agrees}
-use Rattle.site.proofs.Promises.{empty-judged, holds-to}
+use Rattle.site.proofs.Adding.{grants, add-stores, add-keeps, add-agrees, memory-stored}
+use Rattle.site.proofs.Promises.{empty-judged, stored-fine}
 use Rattle.text.specs.Pieces.{lineFeed, afterOf, pieces}
 use Rattle.text.proofs.Splitting.{hasOf, pieces-step, before-all, after-shorter}
 use Rattle.job.specs.declared.Job.{Job}
@@ -81,7 +80,7 @@ pub record Walked (job : Job) (s : List ℕ) (from at line : ℕ) (site : Site) 
 
 module _ (job : Job) (s : List ℕ) (from : ℕ) where
   pub walked-none : {site : Site} → site ≡ emptySite → Walked job s from from 7 site (record { 0 = 0 })
-  walked-none e = rw e (record { within = omega arith; memory = refl; fine = empty-judged; decides = refl })
+  walked-none e = rw e (record { within = omega arith; memory = record { parts = refl; numbers = refl }; fine = empty-judged; decides = refl })
 
   module _ (at line : ℕ) (site : Site) (total : Area) (w : Walked job s from at line site total) where
     pub walked-end : {r : Reading} → length s ≤ at → r ≡ endedAt job [] line site → r ≡ areasFrom job (linesOf (drop from s)) 7 emptySite
@@ -94,7 +93,7 @@ module _ (job : Job) (s : List ℕ) (from : ℕ) where
           let n = length-drop at s in
           r ∙ sym (areas-bad job (drop at s) line site (λ z. absurd (omega arith)) (sym (l .read) ∙ e)) ∙ w .decides
 
-      module _ {p : SubArea} {x : AreaAnswer} (e : found .read ≡ Is p) (a : x ≡ addAnswer (site .count) (total .0) p) where
+      module _ {p : SubArea} {x : AreaAnswer} (e : found .read ≡ Is p) (a : x ≡ addAnswer (site .count) (site .counter) (total .0) p) where
         pub walked-refused : {why : Refusal} {r : Reading} → x ≡ Refused why → r ≡ refusedAt line why → r ≡ areasFrom job (linesOf (drop from s)) 7 emptySite
         walked-refused f r =
             let kept = add-keeps site (total .0) p a f ∙ add-agrees site p total (w .fine) in
@@ -112,11 +111,11 @@ module _ (job : Job) (s : List ℕ) (from : ℕ) where
         walked-next {more} h f =
             let less = walked-shorter h in
             let put = add-stores site (total .0) p a f in
-            let holds = holds-to site p total more (w .memory) (w .fine) (sym (ap (λ (d : Added). d .answer) put) ∙ f) .1 in
+            let g = grants (site .count) (site .counter) (total .0) p more (sym a ∙ f) in
             record {
               within = omega (arith, w .within);
-              memory = length-set (site .parts) (site .count) p ∙ w .memory;
-              fine = ap (λ (d : Added). judged (d .site)) put ∙ holds;
+              memory = memory-stored site p (w .memory);
+              fine = stored-fine site p total (w .memory) (w .fine) (g .fit) (g .place) (g .within) ∙ ap Granted (g .new-total);
               decides =
                   rw (l .behind p e)
                   (sym (rw (← put ∙ add-agrees site p total (w .fine), f) at (areas-good job (drop at s) line site (sym (l .read) ∙ e))) ∙ w .decides);

@@ -1,15 +1,16 @@
 -- Rules, "Job and answer text" and "The numbers given back": what is promised of a reading, as statements that proofs/Promises.antt
 -- proves.
 -- Assumes nothing.
-use Prim.Native.Nat.{ℕ, suc, _≤_, _<_}
+use Prim.Native.Nat.{ℕ, suc, _+_, _≤_, _<_}
 use mathlib.Core.List.{List, []}
 use mathlib.Core.Logic.{_⊎_}
 use mathlib.Core.Path.{_≡_}
 use lib.ListN.{length, getD}
 use Rattle.refusal.specs.declared.Refusal.the-variants.{MalformedText, UnfitSubArea, TotalAreaPassed, SiteFull}
 use Rattle.refusal.specs.Refusal.{numberOf, granted}
-use Rattle.site.specs.Parts.{emptySite}
+use Rattle.site.specs.Parts.{numbersOf, emptySite}
 use Rattle.site.specs.Judging.{judged, given as givenArea}
+use Rattle.site.specs.Runs.{upFrom}
 use Rattle.text.specs.Part.{partOf}
 use Rattle.job.specs.Lines.{linesOf}
 use Rattle.job.specs.Reading.{mostBytes, readingOf, given}
@@ -22,7 +23,14 @@ SiteBeside =
     → (given (readingOf s .answer) .0 ≡ granted → givenArea (judged (readingOf s .site)) .0 ≡ granted)
     × ((given (readingOf s .answer) .0 ≡ granted → ⊥) → readingOf s .site ≡ emptySite)
 
--- A text that does not read is refused 1, 2, 3 or 14.
+-- The n sub-areas of a job's site have the numbers 1 to n in their order, and its counter is n + 1.
+abbrev pub NumberedInOrder : Type 0
+NumberedInOrder =
+    (s : List ℕ)
+    → given (readingOf s .answer) .0 ≡ granted
+    → (numbersOf (readingOf s .site) ≡ upFrom 1 (readingOf s .site .count)) × (readingOf s .site .counter ≡ readingOf s .site .count + 1)
+
+-- A text that does not read is refused 1, 2, 3 or 14: 16 and 17 arise in no reading.
 abbrev pub RefusedNumbers : Type 0
 RefusedNumbers =
     (s : List ℕ)

@@ -142,7 +142,8 @@ pub fn read_areas(job: Job, text: &[u8], from: usize) -> Reading
             return refused(line, Refusal::MalformedText);
         };
         let count = site.count;
-        let answer = site::add_answer(count, total, part);
+        let number = site.counter;
+        let answer = site::add_answer(count, number, total, part);
         match answer {
             AreaAnswer::Granted(more) => {
                 total = more;
@@ -152,7 +153,9 @@ pub fn read_areas(job: Job, text: &[u8], from: usize) -> Reading
             }
         }
         site.parts[count] = part;
+        site.numbers[count] = number;
         site.count = count + 1;
+        site.counter = number + 1;
         at = found.next;
         line += 1;
     }

@@ -9,3 +9,4 @@ pub mod Map
 pub mod Table
 pub mod Sum
 pub mod Equation
+pub mod ClosedUp

@@ -4,3 +4,4 @@ pub mod Line
 pub mod Table
 pub mod Sum
 pub mod Turn
+pub mod ClosedUp

@@ -25,6 +25,8 @@ number-range refused.ReadingTooFast = (lit< tt, lit< tt)
 number-range refused.BufferTooShort = (lit< tt, lit< tt)
 number-range refused.SiteFull = (lit< tt, lit< tt)
 number-range refused.PastLargest = (lit< tt, lit< tt)
+number-range refused.NumberNotHeld = (lit< tt, lit< tt)
+number-range refused.NumbersSpent = (lit< tt, lit< tt)
 
 pub refusal-not-granted : (why : Refusal) → numberOf why ≡ granted → ⊥
 refusal-not-granted why e = let r = number-range why .0 in omega arith

@@ -20,6 +20,8 @@ numberOf refused.ReadingTooFast = 12
 numberOf refused.BufferTooShort = 13
 numberOf refused.SiteFull = 14
 numberOf refused.PastLargest = 15
+numberOf refused.NumberNotHeld = 16
+numberOf refused.NumbersSpent = 17
 
 -- what a granted answer gives in the place of a number
 abbrev pub granted : ℕ

@@ -33,6 +33,11 @@ pub enum Refusal {
     SiteFull,
     // 15: a load, or V(200), past 10^13.
     PastLargest,
+    // 16: a number that the site does not hold, or a record whose counter is 0 or whose numbers do not rise strictly from at
+    // least 1 and stay below it.
+    NumberNotHeld,
+    // 17: an add that finds the counter at 1,000,000 or more.
+    NumbersSpent,
 }
 
 // The number that the rules give a refusal.
@@ -55,5 +60,7 @@ pub fn number(r: Refusal) -> u64
         Refusal::BufferTooShort => 13,
         Refusal::SiteFull => 14,
         Refusal::PastLargest => 15,
+        Refusal::NumberNotHeld => 16,
+        Refusal::NumbersSpent => 17,
     }
 }

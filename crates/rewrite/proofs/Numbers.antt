@@ -6,7 +6,7 @@ use mathlib.Core.Path.{_≡_, refl, sym, _∙_, ap}
 use Rattle.laws.specs.First.{firstFrom}
 use Rattle.laws.specs.Sum.{sumOf}
 use Rattle.runoff.specs.Runoff.{runoffOf, byRows, fromRow}
-use Rattle.site.specs.Judging.{judgedFrom, judged}
+use Rattle.site.specs.Judging.{judgedFrom, risesTo, judged}
 use Rattle.site.specs.Adding.{addAnswer, addedTo, added}
 use Rattle.volume.specs.Volume.{volumeOf}
 use Rattle.sheet.specs.Sheet.{previous, inStep, lengthsFit, withoutRates, offendingRate, verdictOf}
@@ -43,15 +43,15 @@ unfolding sumOf
 loads-stay = refl
 
 pub sizes-before : SizesBefore
-unfolding firstFrom sumOf runoffOf byRows fromRow judgedFrom judged previous inStep lengthsFit withoutRates offendingRate verdictOf height fastest curvesOf exactIn basisAt fastestTaken rated admissionOf creditBy sizeBy onSheet oldVolumeOf
+unfolding firstFrom sumOf runoffOf byRows fromRow judgedFrom risesTo judged previous inStep lengthsFit withoutRates offendingRate verdictOf height fastest curvesOf exactIn basisAt fastestTaken rated admissionOf creditBy sizeBy onSheet oldVolumeOf
 sizes-before = refl
 
 pub sizes-since : SizesSince
-unfolding firstFrom sumOf runoffOf byRows fromRow judgedFrom judged volumeOf previous inStep lengthsFit withoutRates offendingRate verdictOf height fastest curvesOf exactIn basisAt fastestTaken rated admissionOf creditBy sizeBy onSheet answerOf
+unfolding firstFrom sumOf runoffOf byRows fromRow judgedFrom risesTo judged volumeOf previous inStep lengthsFit withoutRates offendingRate verdictOf height fastest curvesOf exactIn basisAt fastestTaken rated admissionOf creditBy sizeBy onSheet answerOf
 sizes-since = refl
 
 pub wetland-rewritten : WetlandRewritten
-unfolding rewrittenOf judgedFrom judged addAnswer addedTo added partOf indexOf joined pieces sameOf placeFrom digitsFrom numeralOf valueOf headFrom headOf subAreaFrom subAreaOf addedLine areasFrom behindHead readingOf
+unfolding rewrittenOf judgedFrom risesTo judged addAnswer addedTo added partOf indexOf joined pieces sameOf placeFrom digitsFrom numeralOf valueOf headFrom headOf subAreaFrom subAreaOf addedLine areasFrom behindHead readingOf
 wetland-rewritten = refl
 
 -- the outcomes of both jobs, before and since, and their texts
@@ -59,7 +59,7 @@ outcomes-told : (oldOutcomeOf byTables wetlandJob ≡ Granted (figures 637_650 1
     × (outcomeOf byTables wetlandJob ≡ Granted (figures 637_650 107 68_840 Between 2_000_000_000 438_958))
     × (oldOutcomeOf byTables basinJob ≡ Granted (figures 52_046 36 70_000 Between 364_161_600 36_432))
     × (outcomeOf byTables basinJob ≡ Granted (figures 52_046 36 70_000 Between 392_475_600 36_432))
-unfolding firstFrom sumOf runoffOf byRows fromRow judgedFrom judged addAnswer addedTo added volumeOf oldVolumeOf ratesOf percentsOf previous inStep lengthsFit withoutRates offendingRate verdictOf height fastest curvesOf exactIn basisAt fastestTaken rated admissionOf creditBy sizeBy onSheet answerOf partOf indexOf joined pieces sameOf placeFrom digitsFrom numeralOf valueOf headFrom headOf subAreaFrom subAreaOf addedLine areasFrom behindHead readingOf outcomeOf
+unfolding firstFrom sumOf runoffOf byRows fromRow judgedFrom risesTo judged addAnswer addedTo added volumeOf oldVolumeOf ratesOf percentsOf previous inStep lengthsFit withoutRates offendingRate verdictOf height fastest curvesOf exactIn basisAt fastestTaken rated admissionOf creditBy sizeBy onSheet answerOf partOf indexOf joined pieces sameOf placeFrom digitsFrom numeralOf valueOf headFrom headOf subAreaFrom subAreaOf addedLine areasFrom behindHead readingOf outcomeOf
 outcomes-told = (refl, refl, refl, refl)
 
 pub wetland-answered : WetlandAnswered

@@ -5,7 +5,7 @@ use mathlib.Core.Bool.{Bool, _&&_, not}
 use mathlib.Core.List.{List, [], _∷_, map}
 use mathlib.Core.Path.{_≡_, refl, _∙_, ap}
 use lib.Dec.{leb}
-use lib.ListN.{getD}
+use lib.ListN.{getD, set}
 use Rattle.units.specs.Limits.{mostArea}
 use Rattle.laws.proofs.Map.{take-map, set-map, sum-map}
 use Rattle.site.specs.declared.LandUse.{LandUse}
@@ -57,23 +57,30 @@ judged-kept s = rw (parts-on-c s, judged-from-kept 0 (partsOf s))
 
 -- An add of the sub-area on C to the site on C gives what the add gives, its site on C.
 abbrev pub addedOnC : Added → Added
-addedOnC a = record { answer = a .answer; site = siteOnC (a .site) }
+addedOnC a = record { answer = a .answer; site = siteOnC (a .site); number = a .number }
 
-add-answer-kept : (count total : ℕ) (p : SubArea) → addAnswer count total (partOnC p) ≡ addAnswer count total p
+add-answer-kept : (count counter total : ℕ) (p : SubArea) → addAnswer count counter total (partOnC p) ≡ addAnswer count counter total p
 unfolding addAnswer
-add-answer-kept count total p = rw (fits-kept p)
+add-answer-kept count counter total p = rw (fits-kept p)
 
 module _ (s : Site) (p : SubArea) where
   stored-on-c : stored (siteOnC s) (partOnC p) ≡ siteOnC (stored s p)
-  stored-on-c = λ i. record { parts = set-map partOnC (s .parts) (s .count) p i; count = s .count + 1 }
+  stored-on-c =
+      λ i.
+      record {
+        parts = set-map partOnC (s .parts) (s .count) p i;
+        count = s .count + 1;
+        numbers = set (s .numbers) (s .count) (s .counter);
+        counter = s .counter + 1;
+      }
 
   settled-on-c : (x : AreaAnswer) → settled (siteOnC s) (partOnC p) x ≡ addedOnC (settled s p x)
-  settled-on-c (Granted total) = λ i. record { answer = Granted total; site = stored-on-c i }
+  settled-on-c (Granted total) = λ i. record { answer = Granted total; site = stored-on-c i; number = s .counter }
   settled-on-c (Refused why) = refl
 
   added-to-on-c : (total : ℕ) → addedTo (siteOnC s) total (partOnC p) ≡ addedOnC (addedTo s total p)
   unfolding addedTo
-  added-to-on-c total = ap (settled (siteOnC s) (partOnC p)) (add-answer-kept (s .count) total p) ∙ settled-on-c (addAnswer (s .count) total p)
+  added-to-on-c total = ap (settled (siteOnC s) (partOnC p)) (add-answer-kept (s .count) (s .counter) total p) ∙ settled-on-c (addAnswer (s .count) (s .counter) total p)
 
   pub added-on-c : added (siteOnC s) (partOnC p) ≡ addedOnC (added s p)
   unfolding added

@@ -34,7 +34,7 @@ plot =
     ∷ []
 
 abbrev pub plotSite : Site
-plotSite = record { parts = plot ++ replicate 29 blank; count = 3 }
+plotSite = record { parts = plot ++ replicate 29 blank; count = 3; numbers = 1 ∷ 2 ∷ 3 ∷ replicate 29 0; counter = 4 }
 
 -- V before and since
 abbrev pub bothVolumes : ℕ → ℕ × ℕ

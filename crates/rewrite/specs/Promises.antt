@@ -46,9 +46,9 @@ onC NoSoil = NoSoil
 abbrev pub partOnC : SubArea → SubArea
 partOnC p = record { land = p .land; cover = p .cover; soil = onC (p .soil); area = p .area }
 
--- a site with C for U in each sub-area, and the same count
+-- a site with C for U in each sub-area, and all else the same
 abbrev pub siteOnC : Site → Site
-siteOnC s = record { parts = map partOnC (s .parts); count = s .count }
+siteOnC s = record { parts = map partOnC (s .parts); count = s .count; numbers = s .numbers; counter = s .counter }
 
 -- Where a text reads, its rewriting reads as the same job, on the same site but for the soil C where U stood.
 abbrev pub ReadsAsC : Type 0

@@ -19,7 +19,7 @@ use Rattle.site.specs.declared.Site.{Site}
 use Rattle.site.specs.declared.AreaAnswer.{AreaAnswer}
 use Rattle.site.specs.declared.AreaAnswer.the-variants.{Granted, Refused}
 use Rattle.site.specs.Parts.{partsOf, areaOf, mostParts, totalArea, imperviousArea}
-use Rattle.site.specs.Judging.{fits, hasRoom, judgedFrom, judged, afterJudging, impervious}
+use Rattle.site.specs.Judging.{fits, hasRoom, judgedFrom, afterJudging, numbered, withNumbers, judged, impervious}
 use Rattle.site.specs.Inner.{Fine}
 use Rattle.site.specs.Promises.{allFit}
 
@@ -47,20 +47,27 @@ from-total total (p ∷ ps) a h e =
     let n = from-total (total + areaOf p) ps a l (t .1 .1) in
     (simp (t .0) (n .0), omega arith, n .2)
 
-granted-count : (s : Site) (a : Area) (b : Bool) → leb (s .count) mostParts ≡ b
-    → inTurn Refused (judgedFrom 0 (partsOf s)) ((b, SiteFull) ∷ []) ≡ Granted a
-    → (s .count ≤ mostParts) × (judgedFrom 0 (partsOf s) ≡ Granted a)
-granted-count s a true f e = (leb-true (s .count) mostParts f, e)
-granted-count s a false f e = absurd (never-granted e)
+-- Sub-areas that are granted fit, and their total area is at most the largest.
+pub parts-fine : (ps : List SubArea) (a : Area) → judgedFrom 0 ps ≡ Granted a → (allFit ps ≡ true) × (totalArea ps ≤ mostArea)
+parts-fine ps a e = let t = from-total 0 ps a (omega arith) e in let z = t .1 in let l = t .2 in (t .0, omega arith)
+
+-- Where a record is granted, its count, its sub-areas and its numbers passed.
+record-passed : (s : Site) (a : Area) (b d : Bool) (x : AreaAnswer) → leb (s .count) mostParts ≡ b
+    → inTurn Refused (afterJudging Refused (withNumbers d) x) ((b, SiteFull) ∷ []) ≡ Granted a
+    → (s .count ≤ mostParts) × (x ≡ Granted a) × (d ≡ true)
+record-passed s a true true (Granted total) f e = (leb-true (s .count) mostParts f, e, refl)
+record-passed s a true false (Granted total) f e = absurd (never-granted e)
+record-passed s a true d (Refused why) f e = absurd (never-granted e)
+record-passed s a false d x f e = absurd (never-granted e)
 
 -- What a record that is judged fine has.
 pub judged-has : (s : Site) (a : Area) → judged s ≡ Granted a
-    → (s .count ≤ mostParts) × (allFit (partsOf s) ≡ true) × (totalArea (partsOf s) ≡ a .0) × (a .0 ≤ mostArea)
+    → (s .count ≤ mostParts) × (allFit (partsOf s) ≡ true) × (totalArea (partsOf s) ≡ a .0) × (a .0 ≤ mostArea) × (numbered s ≡ true)
 unfolding judged
 judged-has s a e =
-    let g = granted-count s a (leb (s .count) mostParts) refl e in
+    let g = record-passed s a (leb (s .count) mostParts) (numbered s) (judgedFrom 0 (partsOf s)) refl e in
     let t = from-total 0 (partsOf s) a (omega arith) (g .1) in
-    (g .0, t .0, omega arith, t .2)
+    (g .0, t .0, omega arith, t .2, g .2)
 
 -- A record that is judged fine has at most 32 sub-areas and at most the largest area.
 pub judged-fine : (s : Site) (a : Area) → judged s ≡ Granted a → Fine s
@@ -78,12 +85,20 @@ from-fits total (p ∷ ps) f h =
     let room = le-leb (total + areaOf p) mostArea (omega arith) in
     simp (b .0, room, ← add-assoc) (from-fits (total + areaOf p) ps (b .1) (omega arith))
 
+-- Sub-areas that fit are granted with their total area, where it is at most the largest.
+pub fine-parts : (ps : List SubArea) → allFit ps ≡ true → totalArea ps ≤ mostArea → judgedFrom 0 ps ≡ Granted (record { 0 = totalArea ps })
+fine-parts ps f h = from-fits 0 ps f (omega arith) ∙ ap (λ (n : ℕ). Granted (record { 0 = n })) (zero-add _)
+
+-- A record of at most 32 sub-areas is judged by them, and then by its numbers.
+pub by-parts : (s : Site) → s .count ≤ mostParts → judged s ≡ afterJudging Refused (withNumbers (numbered s)) (judgedFrom 0 (partsOf s))
+unfolding judged
+by-parts s h = simp (le-leb _ _ h)
+
 -- A record that has what is asked is judged fine.
 pub has-judged : (s : Site) (a : Area) → s .count ≤ mostParts → allFit (partsOf s) ≡ true
-    → totalArea (partsOf s) ≡ a .0 → a .0 ≤ mostArea → judged s ≡ Granted a
-unfolding judged
-has-judged s a h f t l =
-    simp (le-leb _ _ h) (from-fits 0 (partsOf s) f (omega arith) ∙ ap (λ (n : ℕ). Granted (record { 0 = n })) (zero-add _ ∙ t))
+    → totalArea (partsOf s) ≡ a .0 → a .0 ≤ mostArea → numbered s ≡ true → judged s ≡ Granted a
+has-judged s a h f t l n =
+    by-parts s h ∙ rw (n, fine-parts (partsOf s) f (omega arith)) (ap (λ (m : ℕ). Granted (record { 0 = m })) t)
 
 -- A call whose record is judged: a fine record goes on with its total area, and a refused one stops the call.
 module _ {A : Type 0} (refused : Refusal → A) (onward : ℕ → A) (s : Site) {found : AreaAnswer} (e : found ≡ judged s) where

@@ -2,7 +2,13 @@ pub mod Parts
 pub mod Tests
 pub mod Judging
 pub mod Walking
+pub mod Numbering
 pub mod Adding
+pub mod Removing
 pub mod Sums
 pub mod Refusing
 pub mod Promises
+pub mod Removals
+pub mod Alike
+pub mod Runs
+pub mod Numbers

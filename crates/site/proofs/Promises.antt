@@ -6,14 +6,11 @@ use mathlib.Core.Bool.{true, and-eq-true-iff}
 use mathlib.Core.List.{List, [], _∷_, _++_}
 use native.Mathlib.Numerals.{add-one}
 use native.Mathlib.Omega.{arith}
-use lib.Dec.{leb}
 use lib.ListN.{getD}
 use lib.Seq.{take-suc-set, getD-set-other}
 use borrow.Author.Tests.{le-leb, lt-leb}
-use Rattle.laws.specs.Turn.{inTurn}
 use Rattle.laws.proofs.Sum.{sum-more}
 use Rattle.refusal.specs.declared.Refusal.{Refusal}
-use Rattle.refusal.specs.declared.Refusal.the-variants.{SiteFull}
 use Rattle.refusal.specs.Refusal.{granted}
 use Rattle.refusal.proofs.Numbers.{refusal-not-granted}
 use Rattle.units.specs.declared.Area.{Area}
@@ -23,14 +20,16 @@ use Rattle.site.specs.declared.Site.{Site}
 use Rattle.site.specs.declared.Added.{Added}
 use Rattle.site.specs.declared.AreaAnswer.{AreaAnswer}
 use Rattle.site.specs.declared.AreaAnswer.the-variants.{Granted, Refused}
-use Rattle.site.specs.Parts.{mostParts, partsOf, areaOf, blank, emptySite}
-use Rattle.site.specs.Judging.{fits, judgedFrom, judged, impervious, afterJudging, given}
-use Rattle.site.specs.Adding.{kept, stored, settled, addAnswer, addedTo, added}
-use Rattle.site.specs.Promises.{allFit, FineExactly, FullExactly, FirstRefused, InMemory, Alike, PastCountUnread, AddGrantedExactly, AddTries, AddRefused, RefusedKeeps, GrantedHolds, OnlyThePlaceAtTheCount, AddsAgree, EmptyFine}
+use Rattle.site.specs.Parts.{mostParts, partsOf, numbersOf, areaOf, totalArea, blank, emptySite}
+use Rattle.site.specs.Judging.{fits, judgedFrom, afterJudging, risesTo, judged, impervious, given}
+use Rattle.site.specs.Adding.{spentAt, kept, stored, settled, addAnswer, addedTo, added}
+use Rattle.site.specs.Promises.{allFit, NumberedExactly, FineExactly, FullExactly, UnnumberedExactly, FirstRefused, TriedInTurn, InMemory, SameSubAreas, BySubAreasAlone, AddGrantedExactly, AddTries, AddRefused, RefusedKeeps, GrantedHolds, OnlyThePlaceAtTheCount, AddsAgree, EmptyFine}
 use Rattle.site.proofs.Judging.{never-granted, judged-has, has-judged}
-use Rattle.site.proofs.Walking.{overfull}
-use Rattle.site.proofs.Refusing.{full-above, refused-first}
-use Rattle.site.proofs.Adding.{grants, add-unfit, add-full, add-crowded, add-granted, add-settles, add-answers, add-agrees}
+use Rattle.site.proofs.Walking.{overfull, one-by-one}
+use Rattle.site.proofs.Tests.{grow-crowded, grow-granted}
+use Rattle.site.proofs.Numbering.{rises-are, are-rising, rises-more}
+use Rattle.site.proofs.Refusing.{full-above, unnumbered-only, unnumbered-there, refused-first}
+use Rattle.site.proofs.Adding.{Grants, grants, add-unfit, add-full, add-spent, add-grows, add-settles, add-answers, add-agrees}
 
 -- the numbers given back tell the answer
 pub given-granted : (x : AreaAnswer) (a : ℕ) → given x ≡ (granted, a) → x ≡ Granted (record { 0 = a })
@@ -45,44 +44,55 @@ pub given-some : (x : AreaAnswer) → given x .0 ≡ granted → (a : Area) × (
 given-some (Granted area) h = (area, refl)
 given-some (Refused why) h = absurd (refusal-not-granted why h)
 
+pub numbered-exactly : NumberedExactly
+numbered-exactly s = (rises-are (s .counter) (numbersOf s), are-rising (s .counter) (numbersOf s))
+
 pub fine-exactly : FineExactly
 fine-exactly s a = (
   λ e. judged-has s (record { 0 = a }) (given-granted (judged s) a e),
-  λ h. ap given (has-judged s (record { 0 = a }) (h .0) (h .1) (h .2) (h .3)),
+  λ h. ap given (has-judged s (record { 0 = a }) (h .0) (h .1) (h .2) (h .3) (h .4)),
 )
 
 pub full-exactly : FullExactly
 full-exactly s = (full-above s, λ h. ap (λ (x : AreaAnswer). given x .0) (sym (overfull s h)))
 
+pub unnumbered-exactly : UnnumberedExactly
+unnumbered-exactly s = (unnumbered-only s, λ h. unnumbered-there s (h .0) (h .1) (h .2) (h .3))
+
 pub first-refused : FirstRefused
 first-refused = refused-first
+
+pub tried-in-turn : TriedInTurn
+tried-in-turn = one-by-one
 
 pub adds-agree : AddsAgree
 adds-agree s p total e =
     let a = add-agrees s p (record { 0 = total }) (given-granted (judged s) total e) in
     (a, sym (add-answers s total p) ∙ ap (λ (x : Added). x .answer) a)
 
--- An answer worked out from the count and the total of a record that is judged fine is what the add gives back.
+-- An answer worked out from the count, the counter and the total of a record that is judged fine is what the add gives back.
 gives-back : (s : Site) (p : SubArea) (total : ℕ) {x : AreaAnswer} → given (judged s) ≡ (granted, total)
-    → x ≡ addAnswer (s .count) total p → given (added s p .answer) ≡ given x
+    → x ≡ addAnswer (s .count) (s .counter) total p → given (added s p .answer) ≡ given x
 gives-back s p total j e = ap given (sym (e ∙ adds-agree s p total j .1))
 
 pub add-granted-exactly : AddGrantedExactly
 add-granted-exactly s p total a j = (only, there)
   where
-    only : given (added s p .answer) ≡ (granted, a) → (fits p ≡ true) × (s .count < mostParts) × (total + areaOf p ≡ a) × (a ≤ mostArea)
+    only : given (added s p .answer) ≡ (granted, a)
+        → (fits p ≡ true) × (s .count < mostParts) × (s .counter < spentAt) × (total + areaOf p ≡ a) × (a ≤ mostArea)
     only h =
-        let g = grants (s .count) total p (record { 0 = a }) (adds-agree s p total j .1 ∙ given-granted (added s p .answer) a h) in
+        let g = grants (s .count) (s .counter) total p (record { 0 = a }) (adds-agree s p total j .1 ∙ given-granted (added s p .answer) a h) in
         let n : total + areaOf p ≡ a = ap (λ (x : Area). x .0) (g .new-total) in
         let w = g .within in
-        (g .fit, g .place, n, omega arith)
+        (g .fit, g .place, g .unspent, n, omega arith)
 
-    there : (fits p ≡ true) × (s .count < mostParts) × (total + areaOf p ≡ a) × (a ≤ mostArea) → given (added s p .answer) ≡ (granted, a)
+    there : (fits p ≡ true) × (s .count < mostParts) × (s .counter < spentAt) × (total + areaOf p ≡ a) × (a ≤ mostArea)
+        → given (added s p .answer) ≡ (granted, a)
     there h =
-        let n = h .2 in
-        let l = h .3 in
+        let n = h .3 in
+        let l = h .4 in
         let room = le-leb (total + areaOf p) mostArea (omega arith) in
-        gives-back s p total j (add-granted (s .count) total p (sym (h .0)) refl (h .1) (sym room) refl)
+        gives-back s p total j (add-grows (s .count) (s .counter) total p (sym (h .0)) refl (h .1) (h .2) (grow-granted total (areaOf p) (sym room) refl))
         ∙ ap (λ (m : ℕ). (granted, m)) n
 
 refused-record : (s : Site) (p : SubArea) (why : Refusal) → judged s ≡ Refused why → added s p .answer ≡ Refused why
@@ -95,11 +105,12 @@ add-refused s p = (fine, own)
     fine : (total : ℕ) → given (judged s) ≡ (granted, total) → AddTries s total p (given (added s p .answer))
     fine total j =
         record {
-          unfit = λ f. gives-back s p total j (add-unfit (s .count) total p (sym f) refl);
-          full = λ f h. gives-back s p total j (add-full (s .count) total p (sym f) refl (omega arith));
-          passed = λ f h l.
+          unfit = λ f. gives-back s p total j (add-unfit (s .count) (s .counter) total p (sym f) refl);
+          full = λ f h. gives-back s p total j (add-full (s .count) (s .counter) total p (sym f) refl (omega arith));
+          spent = λ f h n. gives-back s p total j (add-spent (s .count) (s .counter) total p (sym f) refl h n);
+          passed = λ f h n l.
               gives-back s p total j
-              (add-crowded (s .count) total p (sym f) refl h (sym (lt-leb (total + areaOf p) mostArea l)) refl);
+              (add-grows (s .count) (s .counter) total p (sym f) refl h n (grow-crowded total (areaOf p) (sym (lt-leb (total + areaOf p) mostArea l)) refl));
         }
 
     own : (given (judged s) .0 ≡ granted → ⊥) → given (added s p .answer) ≡ (given (judged s) .0, 0)
@@ -108,51 +119,71 @@ add-refused s p = (fine, own)
         ap given (refused-record s p (r .0) (r .1)) ∙ ap (λ (x : AreaAnswer). (given x .0, 0)) (sym (r .1))
 
 pub empty-judged : judged emptySite ≡ Granted (record { 0 = 0 })
-unfolding judged judgedFrom
+unfolding judged judgedFrom risesTo
 empty-judged = refl
 
 pub empty-fine : EmptyFine
 empty-fine = ap given empty-judged
 
--- A refused answer comes with the site as it was.
-site-kept : (s : Site) (p : SubArea) (x : AreaAnswer) {why : Refusal} → settled s p x .answer ≡ Refused why → settled s p x .site ≡ s
-site-kept s p (Granted a) h = absurd (never-granted (sym h))
-site-kept s p (Refused r) h = refl
+-- Fine records of the same sub-areas have the same total area.
+same-total : (s t : Site) → SameSubAreas s t → judged s ≡ judged t
+same-total s t r =
+    let here = given-some (judged s) (r .first) in
+    let there = given-some (judged t) (r .second) in
+    let same = ap totalArea (r .parts) in
+    here .1
+    ∙ ap (λ (n : ℕ). Granted (record { 0 = n })) (sym (judged-has s (here .0) (here .1) .2) ∙ same ∙ judged-has t (there .0) (there .1) .2)
+    ∙ sym (there .1)
 
-keeps : (s : Site) (p : SubArea) (why : Refusal) → added s p .answer ≡ Refused why → added s p .site ≡ s
+pub by-sub-areas-alone : BySubAreasAlone
+unfolding impervious
+by-sub-areas-alone s t r = (same-total s t r, simp (same-total s t r, r .parts))
+
+-- A refused answer comes with the site as it was and no number.
+settled-refused : (s : Site) (p : SubArea) (x : AreaAnswer) {why : Refusal} → settled s p x .answer ≡ Refused why → settled s p x ≡ kept s why
+settled-refused s p (Granted a) h = absurd (never-granted (sym h))
+settled-refused s p (Refused r) h = λ i. record { answer = h i; site = s; number = 0 }
+
+pub keeps : (s : Site) (p : SubArea) (why : Refusal) → added s p .answer ≡ Refused why → added s p ≡ kept s why
 unfolding added
 keeps s p why = told (judged s)
   where
     told : (x : AreaAnswer)
         → afterJudging (kept s) (λ total. addedTo s total p) x .answer ≡ Refused why
-        → afterJudging (kept s) (λ total. addedTo s total p) x .site ≡ s
-    told (Granted total) = rw (add-settles s (total .0) p) (site-kept s p (addAnswer (s .count) (total .0) p))
-    told (Refused r) = λ h. refl
+        → afterJudging (kept s) (λ total. addedTo s total p) x ≡ kept s why
+    told (Granted total) = rw (add-settles s (total .0) p) (settled-refused s p (addAnswer (s .count) (s .counter) (total .0) p))
+    told (Refused r) = λ h i. record { answer = h i; site = s; number = 0 }
 
 pub refused-keeps : RefusedKeeps
-refused-keeps s p h = let r = given-refused (added s p .answer) h in keeps s p (r .0) (r .1)
+refused-keeps s p h =
+    let r = given-refused (added s p .answer) h in
+    let k = keeps s p (r .0) (r .1) in
+    (ap (λ (x : Added). x .site) k, ap (λ (x : Added). x .number) k)
 
--- A granted answer comes with the sub-area stored.
-site-stored : (s : Site) (p : SubArea) (x : AreaAnswer) {a : Area} → settled s p x .answer ≡ Granted a → settled s p x .site ≡ stored s p
-site-stored s p (Granted b) h = refl
-site-stored s p (Refused why) h = absurd (never-granted h)
+-- A granted answer comes with the sub-area stored and its number.
+settled-granted : (s : Site) (p : SubArea) (x : AreaAnswer) {a : Area} → settled s p x .answer ≡ Granted a → settled s p x ≡ settled s p (Granted a)
+settled-granted s p (Granted b) h = λ i. record { answer = h i; site = stored s p; number = s .counter }
+settled-granted s p (Refused why) h = absurd (never-granted h)
 
-stores : (s : Site) (p : SubArea) (a : Area) → added s p .answer ≡ Granted a → added s p .site ≡ stored s p
+pub stores : (s : Site) (p : SubArea) (a : Area) → added s p .answer ≡ Granted a → added s p ≡ settled s p (Granted a)
 unfolding added
 stores s p a = told (judged s)
   where
     told : (x : AreaAnswer)
         → afterJudging (kept s) (λ total. addedTo s total p) x .answer ≡ Granted a
-        → afterJudging (kept s) (λ total. addedTo s total p) x .site ≡ stored s p
-    told (Granted total) = rw (add-settles s (total .0) p) (site-stored s p (addAnswer (s .count) (total .0) p))
+        → afterJudging (kept s) (λ total. addedTo s total p) x ≡ settled s p (Granted a)
+    told (Granted total) = rw (add-settles s (total .0) p) (settled-granted s p (addAnswer (s .count) (s .counter) (total .0) p))
     told (Refused why) = λ h. absurd (never-granted h)
 
 pub only-the-place-at-the-count : OnlyThePlaceAtTheCount
 only-the-place-at-the-count s p h =
     let g = given-some (added s p .answer) h in
-    let e = stores s p (g .0) (g .1) in (
+    let e = ap (λ (x : Added). x .site) (stores s p (g .0) (g .1)) in (
       ap (λ (t : Site). t .count) e,
-      λ k n. ap (λ (t : Site). getD (t .parts) k blank) e ∙ getD-set-other (s .parts) (s .count) k p blank n,
+      λ k n. (
+        ap (λ (t : Site). getD (t .parts) k blank) e ∙ getD-set-other (s .parts) (s .count) k p blank n,
+        ap (λ (t : Site). getD (t .numbers) k 0) e ∙ getD-set-other (s .numbers) (s .count) k (s .counter) 0 n,
+      ),
     )
 
 -- One sub-area more that fits leaves all fitting.
@@ -163,12 +194,16 @@ all-fit-more (q ∷ ps) p f g =
     let b = and-eq-true-iff (fits q) (allFit ps) .0 f in
     simp (b .0) (all-fit-more ps p (b .1) g)
 
--- A site with a sub-area stored holds it after the others.
+-- A site with a sub-area stored holds it after the others,
 pub parts-stored : (s : Site) (p : SubArea) → InMemory s → s .count < mostParts → partsOf (stored s p) ≡ partsOf s ++ (p ∷ [])
-parts-stored s p z h = rw add-one (take-suc-set (s .parts) (s .count) p (omega arith))
+parts-stored s p z h = let l = z .parts in rw add-one (take-suc-set (s .parts) (s .count) p (omega arith))
+
+-- and its number after the others.
+pub numbers-stored : (s : Site) (p : SubArea) → InMemory s → s .count < mostParts → numbersOf (stored s p) ≡ numbersOf s ++ (s .counter ∷ [])
+numbers-stored s p z h = let l = z .numbers in rw add-one (take-suc-set (s .numbers) (s .count) (s .counter) (omega arith))
 
 -- A site that is judged fine and has room is judged fine when a sub-area is stored.
-stored-fine : (s : Site) (p : SubArea) (total : Area) → InMemory s → judged s ≡ Granted total → fits p ≡ true → s .count < mostParts
+pub stored-fine : (s : Site) (p : SubArea) (total : Area) → InMemory s → judged s ≡ Granted total → fits p ≡ true → s .count < mostParts
     → total .0 + areaOf p ≤ mostArea → judged (stored s p) ≡ Granted (record { 0 = total .0 + areaOf p })
 stored-fine s p total z j f h l =
     let e = parts-stored s p z h in
@@ -178,89 +213,29 @@ stored-fine s p total z j f h l =
     (rw e (all-fit-more (partsOf s) p (k .1) f))
     (rw e (sum-more areaOf (partsOf s) p ∙ ap (λ (n : ℕ). n + areaOf p) (k .2)))
     l
+    (rw (numbers-stored s p z h) (rises-more (s .counter) 0 (numbersOf s) (k .4)))
 
--- What a granted add holds, where the record's total area is told.
-pub holds-to : (s : Site) (p : SubArea) (total a : Area) → InMemory s → judged s ≡ Granted total → addedTo s (total .0) p .answer ≡ Granted a
-    → (partsOf (addedTo s (total .0) p .site) ≡ partsOf s ++ (p ∷ [])) × (judged (addedTo s (total .0) p .site) ≡ Granted a)
-holds-to s p total a z j e =
-    let x : addAnswer (s .count) (total .0) p ≡ Granted a = sym (add-answers s (total .0) p) ∙ e in
-    let g = grants (s .count) (total .0) p a x in
-    rw (add-settles s (total .0) p, x)
-    (parts-stored s p z (g .place), stored-fine s p total z j (g .fit) (g .place) (g .within) ∙ ap Granted (g .new-total))
-
-holds : (s : Site) (p : SubArea) (a : Area) → InMemory s → added s p .answer ≡ Granted a
-    → (partsOf (added s p .site) ≡ partsOf s ++ (p ∷ [])) × (judged (added s p .site) ≡ Granted a)
+-- what a granted add tells of its record: it is judged fine with a total area from which the add is granted
+pub from-fine : (s : Site) (p : SubArea) (a : Area) → added s p .answer ≡ Granted a
+    → (total : Area) × (judged s ≡ Granted total) × Grants (s .count) (s .counter) (total .0) p a
 unfolding added
-holds s p a z = told (judged s) refl
+from-fine s p a = told (judged s) refl
   where
     told : (x : AreaAnswer) → judged s ≡ x
         → afterJudging (kept s) (λ total. addedTo s total p) x .answer ≡ Granted a
-        → (partsOf (afterJudging (kept s) (λ total. addedTo s total p) x .site) ≡ partsOf s ++ (p ∷ []))
-        × (judged (afterJudging (kept s) (λ total. addedTo s total p) x .site) ≡ Granted a)
-    told (Granted total) j e = holds-to s p total a z j e
+        → (total : Area) × (judged s ≡ Granted total) × Grants (s .count) (s .counter) (total .0) p a
+    told (Granted total) j e = (total, j, grants (s .count) (s .counter) (total .0) p a (sym (add-answers s (total .0) p) ∙ e))
     told (Refused why) j e = absurd (never-granted e)
 
 pub granted-holds : GrantedHolds
 granted-holds s p a z e =
-    let h = holds s p (record { 0 = a }) z (given-granted (added s p .answer) a e) in (h .0, ap given (h .1))
-
-module _ (s t : Site) (r : Alike s t) where
-  judged-alike : judged s ≡ judged t
-  unfolding judged
-  judged-alike = ap-two (r .count) (r .parts)
-    where
-      ap-two : {n m : ℕ} {ps qs : List SubArea} → n ≡ m → ps ≡ qs
-          → inTurn Refused (judgedFrom 0 ps) ((leb n mostParts, SiteFull) ∷ [])
-          ≡ inTurn Refused (judgedFrom 0 qs) ((leb m mostParts, SiteFull) ∷ [])
-      ap-two e f = simp (e, f)
-
-  impervious-alike : impervious s ≡ impervious t
-  unfolding impervious
-  impervious-alike = simp (judged-alike, r .parts)
-
-  module _ (p : SubArea) (total : ℕ) where
-    added-to-answer : addedTo s total p .answer ≡ addedTo t total p .answer
-    added-to-answer =
-        add-answers s total p ∙ ap (λ (n : ℕ). addAnswer n total p) (r .count) ∙ sym (add-answers t total p)
-
-    stored-alike : InMemory s → InMemory t → s .count < mostParts → Alike (stored s p) (stored t p)
-    stored-alike y z h =
-        let c = r .count in
-        let g : t .count < mostParts = omega arith in
-        record {
-          count = ap (λ (n : ℕ). n + 1) (r .count);
-          parts = parts-stored s p y h ∙ ap (λ (ps : List SubArea). ps ++ (p ∷ [])) (r .parts) ∙ sym (parts-stored t p z g);
-        }
-
-    added-to-site : InMemory s → InMemory t → Alike (addedTo s total p .site) (addedTo t total p .site)
-    added-to-site y z =
-        rw (add-settles s total p, add-settles t total p)
-        (told (addAnswer (s .count) total p) (addAnswer (t .count) total p) refl (ap (λ (n : ℕ). addAnswer n total p) (r .count)))
-      where
-        told : (x w : AreaAnswer) → addAnswer (s .count) total p ≡ x → x ≡ w → Alike (settled s p x .site) (settled t p w .site)
-        told (Granted a) (Granted b) e f = stored-alike y z (grants (s .count) total p a e .place)
-        told (Granted a) (Refused why) e f = absurd (never-granted (sym f))
-        told (Refused why) (Granted b) e f = absurd (never-granted f)
-        told (Refused why) (Refused other) e f = r
-
-  module _ (p : SubArea) where
-    added-answer : added s p .answer ≡ added t p .answer
-    unfolding added
-    added-answer = rw (← judged-alike) (told (judged s))
-      where
-        told : (x : AreaAnswer)
-            → afterJudging (kept s) (λ total. addedTo s total p) x .answer ≡ afterJudging (kept t) (λ total. addedTo t total p) x .answer
-        told (Granted total) = added-to-answer p (total .0)
-        told (Refused why) = refl
-
-    added-site : InMemory s → InMemory t → Alike (added s p .site) (added t p .site)
-    unfolding added
-    added-site y z = rw (← judged-alike) (told (judged s))
-      where
-        told : (x : AreaAnswer)
-            → Alike (afterJudging (kept s) (λ total. addedTo s total p) x .site) (afterJudging (kept t) (λ total. addedTo t total p) x .site)
-        told (Granted total) = added-to-site p (total .0) y z
-        told (Refused why) = r
-
-pub past-count-unread : PastCountUnread
-past-count-unread s t r = (judged-alike s t r, impervious-alike s t r, added-answer s t r, added-site s t r)
+    let x = given-granted (added s p .answer) a e in
+    let f = from-fine s p (record { 0 = a }) x in
+    let g = f .2 in
+    rw (stores s p (record { 0 = a }) x) (
+      parts-stored s p z (g .place),
+      ap given (stored-fine s p (f .0) z (f .1) (g .fit) (g .place) (g .within) ∙ ap Granted (g .new-total)),
+      refl,
+      numbers-stored s p z (g .place),
+      refl,
+    )

@@ -1,26 +1,28 @@
--- Which sub-area a refused record is refused at.
+-- What a refused record is refused for: its count, the first sub-area that does not pass, or its numbers.
 -- Assumes nothing.
 use Prim.Native.Nat.{ℕ, _+_, _≤_, _<_}
 use mathlib.Core.Bool.{Bool, true, false}
 use mathlib.Core.List.{List, [], _∷_, _++_}
 use mathlib.Core.Logic.{_⊎_, inl, inr, ⊎-elim}
-use mathlib.Core.Path.{_≡_, refl, ap}
+use mathlib.Core.Path.{_≡_, refl, sym, ap}
 use native.Mathlib.Omega.{arith}
-use lib.Dec.{leb}
-use borrow.Author.Tests.{le-leb, leb-true, leb-false}
+use borrow.Author.Tests.{leb-true, leb-false}
 use Rattle.laws.specs.Sum.{sumOf}
 use Rattle.laws.specs.Turn.{inTurn}
 use Rattle.laws.proofs.Order.{lt-or-le}
-use Rattle.refusal.specs.declared.Refusal.the-variants.{UnfitSubArea, TotalAreaPassed, SiteFull}
+use Rattle.refusal.specs.declared.Refusal.the-variants.{UnfitSubArea, TotalAreaPassed, SiteFull, NumberNotHeld}
 use Rattle.refusal.specs.Refusal.{numberOf, granted}
 use Rattle.units.specs.Limits.{mostArea}
 use Rattle.site.specs.declared.SubArea.{SubArea}
 use Rattle.site.specs.declared.Site.{Site}
 use Rattle.site.specs.declared.AreaAnswer.{AreaAnswer}
 use Rattle.site.specs.declared.AreaAnswer.the-variants.{Granted, Refused}
+use Rattle.units.specs.declared.Area.{Area}
 use Rattle.site.specs.Parts.{mostParts, partsOf, areaOf, totalArea}
-use Rattle.site.specs.Judging.{fits, hasRoom, judgedFrom, judged, given}
+use Rattle.site.specs.Judging.{fits, hasRoom, judgedFrom, afterJudging, numbered, withNumbers, judged, given}
 use Rattle.site.specs.Promises.{allFit, RefusedAt}
+use Rattle.site.proofs.Judging.{by-parts, parts-fine, fine-parts}
+use Rattle.site.proofs.Walking.{overfull}
 
 -- The same with a running total before the first sub-area.
 record RefusedFrom (total : ℕ) (parts : List SubArea) (number : ℕ) : Type 0 where
@@ -77,30 +79,63 @@ from-refused total (p ∷ ps) l h =
     (λ m k. from-refused (total + areaOf p) ps m k)
     h
 
-step-full : (b d : Bool) (x : AreaAnswer) → (given x .0 ≡ numberOf SiteFull → ⊥) → given (tried b d x) .0 ≡ numberOf SiteFull → ⊥
-step-full true true x rest e = rest e
-step-full true false x rest e = omega arith
-step-full false d x rest e = omega arith
+step-low : (b d : Bool) (x : AreaAnswer) → given x .0 < numberOf SiteFull → given (tried b d x) .0 < numberOf SiteFull
+step-low true true x rest = rest
+step-low true false x rest = omega arith
+step-low false d x rest = omega arith
 
--- Sub-areas are never refused 14.
-none-full : (total : ℕ) (ps : List SubArea) → given (judgedFrom total ps) .0 ≡ numberOf SiteFull → ⊥
+-- Sub-areas are refused 2 or 3, never 14 or 16.
+parts-low : (total : ℕ) (ps : List SubArea) → given (judgedFrom total ps) .0 < numberOf SiteFull
 unfolding judgedFrom
-none-full total [] e = omega arith
-none-full total (p ∷ ps) e = step-full (fits p) (hasRoom total (areaOf p)) (judgedFrom (total + areaOf p) ps) (none-full (total + areaOf p) ps) e
+parts-low total [] = omega arith
+parts-low total (p ∷ ps) = step-low (fits p) (hasRoom total (areaOf p)) (judgedFrom (total + areaOf p) ps) (parts-low (total + areaOf p) ps)
 
--- A record of at most 32 sub-areas is judged by them.
-by-parts : (s : Site) → s .count ≤ mostParts → judged s ≡ judgedFrom 0 (partsOf s)
-unfolding judged
-by-parts s h = simp (le-leb _ _ h)
+-- what the numbers leave of the answer to the sub-areas
+abbrev lastly : Bool → AreaAnswer → AreaAnswer
+lastly fine x = afterJudging Refused (withNumbers fine) x
+
+never-full : (b : Bool) (x : AreaAnswer) → given x .0 < numberOf SiteFull → given (lastly b x) .0 ≡ numberOf SiteFull → ⊥
+never-full true (Granted total) l e = omega arith
+never-full false (Granted total) l e = omega arith
+never-full b (Refused why) l e = omega arith
 
 pub full-above : (s : Site) → given (judged s) .0 ≡ numberOf SiteFull → mostParts < s .count
 full-above s e =
     ⊎-elim (λ (l : mostParts < s .count). l)
-    (λ (l : s .count ≤ mostParts). absurd (none-full 0 (partsOf s) (rw (by-parts s l) at e)))
+    (λ (l : s .count ≤ mostParts). absurd (never-full (numbered s) (judgedFrom 0 (partsOf s)) (parts-low 0 (partsOf s)) (rw (by-parts s l) at e)))
     (lt-or-le mostParts (s .count))
 
-pub refused-first : (s : Site) → s .count ≤ mostParts → (given (judged s) .0 ≡ granted → ⊥) → RefusedAt (partsOf s) (given (judged s) .0)
-refused-first s l = rw (by-parts s l) (λ h. whole (from-refused 0 (partsOf s) (omega arith) h))
+-- 16 comes of the numbers alone, where the sub-areas are fine.
+unnumbered : (b : Bool) (x : AreaAnswer) → given x .0 < numberOf SiteFull → given (lastly b x) .0 ≡ numberOf NumberNotHeld
+    → (b ≡ false) × ((total : Area) × (x ≡ Granted total))
+unnumbered true (Granted total) l e = absurd (omega arith)
+unnumbered false (Granted total) l e = (refl, (total, refl))
+unnumbered b (Refused why) l e = absurd (omega arith)
+
+pub unnumbered-only : (s : Site) → given (judged s) .0 ≡ numberOf NumberNotHeld
+    → (s .count ≤ mostParts) × (allFit (partsOf s) ≡ true) × (totalArea (partsOf s) ≤ mostArea) × (numbered s ≡ false)
+unnumbered-only s e =
+    ⊎-elim (λ (l : mostParts < s .count). absurd (let z : given (judged s) .0 ≡ numberOf SiteFull = ap (λ (x : AreaAnswer). given x .0) (sym (overfull s l)) in omega arith))
+    (λ (l : s .count ≤ mostParts).
+    let u = unnumbered (numbered s) (judgedFrom 0 (partsOf s)) (parts-low 0 (partsOf s)) (rw (by-parts s l) at e) in
+    let f = parts-fine (partsOf s) (u .1 .0) (u .1 .1) in
+    (l, f .0, f .1, u .0))
+    (lt-or-le mostParts (s .count))
+
+pub unnumbered-there : (s : Site) → s .count ≤ mostParts → allFit (partsOf s) ≡ true → totalArea (partsOf s) ≤ mostArea → numbered s ≡ false
+    → given (judged s) .0 ≡ numberOf NumberNotHeld
+unnumbered-there s l f t n = rw (by-parts s l, n, fine-parts (partsOf s) f t)
+
+-- A record that is refused otherwise is refused by its sub-areas.
+by-sub-areas : (b : Bool) (x : AreaAnswer) → (given (lastly b x) .0 ≡ granted → ⊥) → (given (lastly b x) .0 ≡ numberOf NumberNotHeld → ⊥) → lastly b x ≡ x
+by-sub-areas true (Granted total) h n = refl
+by-sub-areas false (Granted total) h n = absurd (n refl)
+by-sub-areas b (Refused why) h n = refl
+
+pub refused-first : (s : Site) → s .count ≤ mostParts → (given (judged s) .0 ≡ granted → ⊥) → (given (judged s) .0 ≡ numberOf NumberNotHeld → ⊥)
+    → RefusedAt (partsOf s) (given (judged s) .0)
+refused-first s l =
+    rw (by-parts s l) (λ h n. let e = by-sub-areas (numbered s) (judgedFrom 0 (partsOf s)) h n in rw e (whole (from-refused 0 (partsOf s) (omega arith) (rw e at h))))
   where
     whole : {n : ℕ} → RefusedFrom 0 (partsOf s) n → RefusedAt (partsOf s) n
     whole {n} r =

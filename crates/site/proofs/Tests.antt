@@ -2,18 +2,26 @@
 -- Assumes nothing.
 use Prim.Native.Nat.{ℕ, _+_, _-_, _≤_, _<_}
 use mathlib.Core.Bool.{Bool, true, false, not}
-use mathlib.Core.Path.{_≡_, refl, sym, _∙_}
+use mathlib.Core.List.{[], _∷_}
+use mathlib.Core.Path.{_≡_, refl, sym, _∙_, ap}
 use native.Mathlib.Omega.{arith}
 use native.Mathlib.Nat.{lt-of-le-of-lt}
 use mir.Syntax.{w64}
 use mir.Val.{Fits}
 use lib.Dec.{leb, lit<}
-use borrow.Author.Tests.{le-leb, lt-leb, leb-true, leb-false, not-false}
+use borrow.Author.Tests.{le-leb, lt-leb, leb-true, leb-false, not-true, not-false}
+use Rattle.refusal.specs.declared.Refusal.the-variants.{UnfitSubArea, TotalAreaPassed}
+use Rattle.laws.specs.Turn.{inTurn}
+use Rattle.units.specs.declared.Area.{Area}
 use Rattle.units.specs.Limits.{mostArea}
 use Rattle.site.specs.declared.SubArea.{SubArea}
+use Rattle.site.specs.declared.AreaAnswer.{AreaAnswer}
+use Rattle.site.specs.declared.AreaAnswer.the-variants.{Granted, Refused}
 use Rattle.site.specs.Soils.{suits}
 use Rattle.site.specs.Parts.{areaOf}
-use Rattle.site.specs.Judging.{fits, hasRoom}
+use Rattle.site.specs.Judging.{fits, hasRoom, judgedFrom, afterJudging}
+use Rattle.site.specs.Inner.{grownBy}
+use Rattle.site.proofs.Judging.{never-granted}
 
 -- An area past the largest finds no room.
 pub no-room : (total area : ℕ) → mostArea < area → false ≡ hasRoom total area
@@ -43,3 +51,33 @@ by-soil p b l h e = simp (le-leb _ _ l, le-leb _ _ h) e
 pub sum-fits : (total area : ℕ) {b : Bool} → b ≡ hasRoom total area → not b ≡ false → Fits w64 (total + area)
 sum-fits total area e f =
     record { fits = lt-of-le-of-lt (leb-true (total + area) mostArea (sym e ∙ not-false _ f)) (lit< tt) }
+
+-- What an area makes of a total, by the test of 3.
+module _ (total area : ℕ) {b : Bool} (e : b ≡ hasRoom total area) where
+  pub grow-crowded : not b ≡ true → Refused TotalAreaPassed ≡ grownBy total area
+  grow-crowded f = simp (sym e ∙ not-true _ f)
+
+  pub grow-granted : not b ≡ false → Granted (record { 0 = total + area }) ≡ grownBy total area
+  grow-granted f = simp (sym e ∙ not-false _ f)
+
+-- The answers to one sub-area more, by the test of 2.
+module _ (total : ℕ) (p : SubArea) {b : Bool} (e : b ≡ fits p) where
+  pub try-unfit : not b ≡ true → Refused UnfitSubArea ≡ judgedFrom total (p ∷ [])
+  unfolding judgedFrom
+  try-unfit f = simp (sym e ∙ not-true _ f)
+
+  pub try-fit : not b ≡ false → {x : AreaAnswer} → x ≡ grownBy total (areaOf p) → x ≡ judgedFrom total (p ∷ [])
+  unfolding judgedFrom
+  try-fit f g = simp (sym e ∙ not-false _ f) g
+
+-- What a granted sub-area tells: the new total is the one that is answered, and at most the largest area.
+pub try-grants : (total : ℕ) (p : SubArea) (a : Area) → judgedFrom total (p ∷ []) ≡ Granted a → (total + areaOf p ≤ mostArea) × (total + areaOf p ≡ a .0)
+unfolding judgedFrom
+try-grants total p a = told (fits p) (hasRoom total (areaOf p)) refl
+  where
+    told : (b d : Bool) → hasRoom total (areaOf p) ≡ d
+        → inTurn Refused (Granted (record { 0 = total + areaOf p })) ((b, UnfitSubArea) ∷ (d, TotalAreaPassed) ∷ []) ≡ Granted a
+        → (total + areaOf p ≤ mostArea) × (total + areaOf p ≡ a .0)
+    told true true f e = (leb-true (total + areaOf p) mostArea f, ap (afterJudging (λ why. 0) (λ n. n)) e)
+    told true false f e = absurd (never-granted e)
+    told false d f e = absurd (never-granted e)

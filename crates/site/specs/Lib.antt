@@ -2,5 +2,8 @@ pub mod Soils
 pub mod Parts
 pub mod Judging
 pub mod Adding
+pub mod Removing
+pub mod Runs
 pub mod Promises
 pub mod Inner
+pub mod Numbers

@@ -1,4 +1,4 @@
--- Rules, "Site and load": what a site holds, and its areas.
+-- Rules, "Site and load" and "Numbers of sub-areas": what a site holds, and its areas.
 -- Assumes nothing.
 use Prim.Native.Nat.{ℕ}
 use mathlib.Core.List.{List}
@@ -18,6 +18,10 @@ mostParts = 32
 -- The sub-areas of a site are those before its count; what stands past the count is none of them.
 abbrev pub partsOf : Site → List SubArea
 partsOf s = take (s .count) (s .parts)
+
+-- the numbers of these sub-areas, in their order
+abbrev pub numbersOf : Site → List ℕ
+numbersOf s = take (s .count) (s .numbers)
 
 -- the area of a sub-area, hundredths of an acre
 abbrev pub areaOf : SubArea → ℕ
@@ -41,5 +45,6 @@ imperviousArea = sumOf imperviousOf
 abbrev pub blank : SubArea
 blank = record { land = Com; cover = Imp; soil = A; area = record { 0 = 0 } }
 
+-- a site without sub-areas, whose first one gets the number 1
 abbrev pub emptySite : Site
-emptySite = record { parts = replicate mostParts blank; count = 0 }
+emptySite = record { parts = replicate mostParts blank; count = 0; numbers = replicate mostParts 0; counter = 1 }

@@ -1,10 +1,13 @@
-// Rules, "Site and load": sub-areas, the site record that holds them, the judging of a record, and adding to it.
+// Rules, "Site and load" and "Numbers of sub-areas": sub-areas, the site record that holds them, the judging of a record, adding to it
+// and removing from it.
+ghost use mathlib.Core.List.{[], _∷_};
 ghost use mathlib.Core.Path.{_≡_};
 ghost use Rattle.site.specs.Soils.{named, suits, columnOf, loadColumn, runoffColumn};
 ghost use Rattle.site.specs.Parts.{partsOf, imperviousOf, imperviousArea, emptySite};
-ghost use Rattle.site.specs.Judging.{fits, hasRoom, judged, impervious};
+ghost use Rattle.site.specs.Judging.{fits, hasRoom, judgedFrom, risesTo, judged, impervious};
 ghost use Rattle.site.specs.Adding.{addAnswer, addedTo, added};
-ghost use Rattle.site.specs.Inner.{Fine};
+ghost use Rattle.site.specs.Removing.{placeOf, without, removedFrom, removed};
+ghost use Rattle.site.specs.Inner.{Fine, grownBy, Held, Told};
 use refusal::Refusal;
 use units::Area;
 use units::Column;
@@ -49,10 +52,16 @@ pub struct SubArea {
 // How many sub-areas a site holds at most.
 pub const MOST_PARTS: usize = 32;
 
-// The first `count` places hold the sub-areas; no call reads past them.
+// The counter at which all numbers are spent.
+pub const SPENT_AT: u32 = 1_000_000;
+
+// The first `count` places hold the sub-areas and their numbers; no call reads past them. The counter is the number that the next
+// sub-area gets.
 pub struct Site {
     pub parts: [SubArea; MOST_PARTS],
     pub count: usize,
+    pub numbers: [u32; MOST_PARTS],
+    pub counter: u32,
 }
 
 // An area of a site, or the refusal.
@@ -61,8 +70,15 @@ pub enum AreaAnswer {
     Refused(Refusal),
 }
 
-// The site that an add hands back, with its new total area or the refusal.
+// The site that an add hands back, with its new total area or the refusal, and the number that the sub-area got: 0 beside a refusal.
 pub struct Added {
+    pub answer: AreaAnswer,
+    pub site: Site,
+    pub number: u32,
+}
+
+// The site that a removal hands back, with its new total area or the refusal.
+pub struct Removed {
     pub answer: AreaAnswer,
     pub site: Site,
 }
@@ -147,6 +163,16 @@ fn has_room(total: Area, area: Area) -> bool
     total.0 <= units::MOST_AREA - area.0
 }
 
+// A total area with an area added to it, or 3.
+fn grow(total: Area, area: Area) -> AreaAnswer
+    ensures { λ r. ⌜ r ≡ grownBy (total .0) (area .0) ⌝ }
+{
+    if !has_room(total, area) {
+        return AreaAnswer::Refused(Refusal::TotalAreaPassed);
+    }
+    AreaAnswer::Granted(Area(total.0 + area.0))
+}
+
 // A site without sub-areas.
 pub fn empty() -> Site
     ensures { λ r. ⌜ r ≡ emptySite ⌝ }
@@ -160,10 +186,41 @@ pub fn empty() -> Site
     Site {
         parts: [blank; MOST_PARTS],
         count: 0,
+        numbers: [0; MOST_PARTS],
+        counter: 1,
     }
 }
 
-// A record that is judged fine answers with its total area: each sub-area is tried as an add to those before it.
+// One sub-area more, judged on the total area of those before it, by 2 and then 3: the new total, or the refusal.
+pub fn try_part(total: Area, part: SubArea) -> AreaAnswer
+    ensures { λ r. ⌜ r ≡ judgedFrom (total .0) (part ∷ []) ⌝ }
+{
+    if !part_fits(part) {
+        return AreaAnswer::Refused(Refusal::UnfitSubArea);
+    }
+    let area = part.area;
+    grow(total, area)
+}
+
+// The numbers of a record are not refused 16: its counter is not 0, and they rise strictly from at least 1 and stay below it.
+pub fn numbered(numbers: &[u32], counter: u32) -> bool
+    ensures { λ r. ⌜ r ≡ risesTo counter 0 (now (numbers .entry)) ⌝ }
+{
+    let mut low = 0;
+    let mut at = 0;
+    while at < numbers.len() {
+        let number = numbers[at];
+        if number <= low {
+            return false;
+        }
+        low = number;
+        at += 1;
+    }
+    low < counter
+}
+
+// A record that is judged fine answers with its total area: its count is tried, then each sub-area on those before it, then its
+// numbers.
 pub fn judge(site: Site) -> AreaAnswer
     ensures { λ r. ⌜ r ≡ judged site ⌝ }
 {
@@ -175,7 +232,7 @@ pub fn judge(site: Site) -> AreaAnswer
     let mut i = 0;
     while i < count {
         let part = site.parts[i];
-        let answer = add_answer(i, total, part);
+        let answer = try_part(total, part);
         match answer {
             AreaAnswer::Granted(more) => {
                 total = more;
@@ -185,6 +242,10 @@ pub fn judge(site: Site) -> AreaAnswer
                 return AreaAnswer::Refused(why);
             }
         }
+    }
+    let numbers = site.numbers;
+    if !numbered(&numbers[..count], site.counter) {
+        return AreaAnswer::Refused(Refusal::NumberNotHeld);
     }
     AreaAnswer::Granted(total)
 }
@@ -229,10 +290,10 @@ pub fn impervious_area(site: Site) -> AreaAnswer
     }
 }
 
-// What an add answers, to a site of so many sub-areas and the total area that is given: the new total, or the refusal. Where
-// it is granted there is a place for the sub-area at the count.
-pub fn add_answer(count: usize, total: Area, part: SubArea) -> AreaAnswer
-    ensures { λ r. ⌜ r ≡ addAnswer count (total .0) part ⌝ }
+// What an add answers, given the count, the counter and the total area of a site: the new total, or the refusal. Where it is
+// granted there is a place for the sub-area at the count, and a number for it.
+pub fn add_answer(count: usize, counter: u32, total: Area, part: SubArea) -> AreaAnswer
+    ensures { λ r. ⌜ r ≡ addAnswer count counter (total .0) part ⌝ }
 {
     if !part_fits(part) {
         return AreaAnswer::Refused(Refusal::UnfitSubArea);
@@ -240,27 +301,39 @@ pub fn add_answer(count: usize, total: Area, part: SubArea) -> AreaAnswer
     if MOST_PARTS <= count {
         return AreaAnswer::Refused(Refusal::SiteFull);
     }
-    let area = part.area;
-    if !has_room(total, area) {
-        return AreaAnswer::Refused(Refusal::TotalAreaPassed);
+    if SPENT_AT <= counter {
+        return AreaAnswer::Refused(Refusal::NumbersSpent);
     }
-    AreaAnswer::Granted(Area(total.0 + area.0))
+    let area = part.area;
+    grow(total, area)
 }
 
-// The add to a site that is judged fine with the total area that is given. A granted answer has the new total.
+// The add to a site that is judged fine with the total area that is given. A granted answer has the new total, and the sub-area gets
+// the counter for its number.
 fn add_to(site: Site, total: Area, part: SubArea) -> Added
     ensures { λ r. ⌜ r ≡ addedTo site (total .0) part ⌝ }
 {
     let count = site.count;
-    let answer = add_answer(count, total, part);
+    let number = site.counter;
+    let answer = add_answer(count, number, total, part);
     match answer {
         AreaAnswer::Granted(_) => {
             let mut next = site;
             next.parts[count] = part;
+            next.numbers[count] = number;
             next.count = count + 1;
-            Added { answer, site: next }
+            next.counter = number + 1;
+            Added {
+                answer,
+                site: next,
+                number,
+            }
         }
-        AreaAnswer::Refused(_) => Added { answer, site },
+        AreaAnswer::Refused(_) => Added {
+            answer,
+            site,
+            number: 0,
+        },
     }
 }
 
@@ -272,6 +345,74 @@ pub fn add(site: Site, part: SubArea) -> Added
     match found {
         AreaAnswer::Granted(total) => add_to(site, total, part),
         AreaAnswer::Refused(why) => Added {
+            answer: AreaAnswer::Refused(why),
+            site,
+            number: 0,
+        },
+    }
+}
+
+// The first place at which a number stands among some, or how many they are where it stands at none.
+fn place_of(number: u32, numbers: &[u32]) -> usize
+    ensures { λ r. ⌜ r ≡ placeOf number (now (numbers .entry)) ⌝ }
+{
+    let mut k = 0;
+    while k < numbers.len() {
+        if numbers[k] == number {
+            return k;
+        }
+        k += 1;
+    }
+    k
+}
+
+// The site without the sub-area at a place: those behind it move up.
+fn close_up(site: Site, place: usize) -> Site
+    requires { ⌜ Held site place ⌝ }
+    ensures { λ r. ⌜ r ≡ without site place ⌝ }
+{
+    let last = site.count - 1;
+    let mut next = site;
+    let mut i = place;
+    while i < last {
+        next.parts[i] = site.parts[i + 1];
+        next.numbers[i] = site.numbers[i + 1];
+        i += 1;
+    }
+    next.count = last;
+    next
+}
+
+// The removal from a site that is judged fine with the total area that is given.
+fn remove_from(site: Site, total: Area, number: u32) -> Removed
+    requires { ⌜ Told site total ⌝ }
+    ensures { λ r. ⌜ r ≡ removedFrom site (total .0) number ⌝ }
+{
+    let count = site.count;
+    let numbers = site.numbers;
+    let place = place_of(number, &numbers[..count]);
+    if count <= place {
+        return Removed {
+            answer: AreaAnswer::Refused(Refusal::NumberNotHeld),
+            site,
+        };
+    }
+    let part = site.parts[place];
+    let area = part.area;
+    Removed {
+        answer: AreaAnswer::Granted(Area(total.0 - area.0)),
+        site: close_up(site, place),
+    }
+}
+
+// The record is judged, then the sub-area with the number is taken out.
+pub fn remove(site: Site, number: u32) -> Removed
+    ensures { λ r. ⌜ r ≡ removed site number ⌝ }
+{
+    let found = judge(site);
+    match found {
+        AreaAnswer::Granted(total) => remove_from(site, total, number),
+        AreaAnswer::Refused(why) => Removed {
             answer: AreaAnswer::Refused(why),
             site,
         },

@@ -1,6 +1,6 @@
-// Rules, "Numbers to hold on to": runs the numbers that are told there, volumes on a soil that is not known and every entry of
-// the published tables through the library, and prints a line for each. The stored output was made from document 001 without
-// the library, and tools/expected.py says what each line holds.
+// Rules, "Numbers to hold on to" and "Numbers of sub-areas": runs the numbers that are told there, volumes on a soil that is not
+// known, a run of adds and removals and every entry of the published tables through the library, and prints a line for each. The
+// stored output was made from document 001 and the rules without the library, and tools/expected.py says what each line holds.
 use credit::CreditAnswer;
 use credit::Wanted;
 use curve::Mode;
@@ -13,6 +13,7 @@ use published::Place;
 use refusal::Refusal;
 use runoff::RunoffAnswer;
 use sheet::Verdict;
+use site::AreaAnswer;
 use site::Cover;
 use site::LandUse;
 use site::Site;
@@ -27,6 +28,14 @@ use units::Rate;
 use units::Volume;
 use volume::VolumeAnswer;
 ghost use Rattle.published.specs.Inner.{Standing};
+
+// A step of the run: an area is added, a number is removed, or another count or counter is put into the record.
+enum Step {
+    Add(u64),
+    Remove(u32),
+    Count(usize),
+    Counter(u32),
+}
 
 // Puts a byte into a line, unless the line is full, and answers the place behind it.
 fn put_byte(byte: u8, line: &mut [u8], at: usize) -> usize {
@@ -267,6 +276,136 @@ fn loads_of(nutrient: Nutrient) {
     loads_of_use(nutrient, LandUse::Ag, 8);
 }
 
+fn wide(number: u32) -> u64 {
+    number as u64
+}
+
+// A line of the run. The numbers are those before the count.
+fn say_record(answer: u64, total: u64, site: Site) {
+    let mut line = [0; 4 + site::MOST_PARTS];
+    line[0] = answer;
+    line[1] = total;
+    line[2] = site.count as u64;
+    line[3] = wide(site.counter);
+    for i in 0..site::MOST_PARTS {
+        line[4 + i] = wide(site.numbers[i]);
+    }
+    let count = site.count;
+    if site::MOST_PARTS < count {
+        say(b"run", &line);
+        return;
+    }
+    say(b"run", &line[..4 + count]);
+}
+
+fn say_step(answer: AreaAnswer, site: Site) {
+    match answer {
+        AreaAnswer::Granted(total) => say_record(0, total.0, site),
+        AreaAnswer::Refused(why) => say_record(refusal::number(why), 0, site),
+    }
+}
+
+// Adds a commercial impervious sub-area.
+fn add(site: Site, area: u64) -> Site {
+    let part = SubArea {
+        land: LandUse::Com,
+        cover: Cover::Imp,
+        soil: Soil::NoSoil,
+        area: Area(area),
+    };
+    let added = site::add(site, part);
+    let answer = added.answer;
+    let after = added.site;
+    say_step(answer, after);
+    after
+}
+
+fn remove(site: Site, number: u32) -> Site {
+    let removed = site::remove(site, number);
+    let answer = removed.answer;
+    let after = removed.site;
+    say_step(answer, after);
+    after
+}
+
+// Makes a step on a site; an add or a removal prints its line.
+fn make(site: Site, step: Step) -> Site {
+    match step {
+        Step::Add(area) => add(site, area),
+        Step::Remove(number) => remove(site, number),
+        Step::Count(count) => {
+            let mut next = site;
+            next.count = count;
+            next
+        }
+        Step::Counter(counter) => {
+            let mut next = site;
+            next.counter = counter;
+            next
+        }
+    }
+}
+
+// A site with room for one sub-area more.
+fn fill() -> Site {
+    let mut site = site::empty();
+    for area in 1000..1031 {
+        site = add(site, area);
+    }
+    site
+}
+
+// A run of adds and removals.
+fn run() {
+    let steps = [
+        Step::Count(32),
+        Step::Add(5),
+        Step::Remove(1),
+        Step::Count(31),
+        Step::Add(1031),
+        Step::Add(1032),
+        Step::Add(0),
+        Step::Remove(5),
+        Step::Count(32),
+        Step::Add(7),
+        Step::Remove(6),
+        Step::Count(31),
+        Step::Add(7),
+        Step::Remove(5),
+        Step::Remove(34),
+        Step::Remove(0),
+        Step::Counter(1_000_000),
+        Step::Add(1),
+        Step::Remove(33),
+        Step::Add(0),
+        Step::Add(968_509),
+        Step::Counter(999_999),
+        Step::Add(968_509),
+        Step::Add(968_508),
+        Step::Remove(999_999),
+        Step::Add(1),
+        Step::Counter(2_000_000),
+        Step::Remove(1),
+        Step::Count(32),
+        Step::Remove(2),
+        Step::Count(33),
+        Step::Add(0),
+        Step::Count(30),
+        Step::Counter(0),
+        Step::Add(1),
+        Step::Counter(32),
+        Step::Remove(2),
+        Step::Counter(33),
+        Step::Remove(2),
+        Step::Add(1_000_001),
+    ];
+    let mut site = fill();
+    for i in 0..40 {
+        let step = steps[i];
+        site = make(site, step);
+    }
+}
+
 // The number given back, the depth, the credit, its basis, the volume and the removed load of an answer: zeros beside a refusal.
 fn values(answer: CreditAnswer) -> [u64; 6] {
     match answer {
@@ -410,5 +549,6 @@ fn main() {
     sample();
     loads_of(Nutrient::P);
     loads_of(Nutrient::N);
+    run();
     points();
 }

@@ -2,8 +2,9 @@
 -- Assumes nothing.
 use Rattle.site.specs.Judging.{judged}
 use Rattle.site.proofs.Promises as site
+use Rattle.site.proofs.Alike.{past-count-unread as record-past-count}
 use Rattle.volume.specs.Answers.{volumeAnswer, depthAnswer, gatheredAnswer}
-use Rattle.volume.specs.Promises.{StartsAtZero, NeverFalls, RisesStrictly, Fits, LargestDepth, VolumeGrantedExactly, DepthGrantedExactly, VolumeRefused, DepthRefused, SixAreasSuffice, PastCountUnread}
+use Rattle.volume.specs.Promises.{StartsAtZero, NeverFalls, RisesStrictly, Fits, LargestDepth, VolumeGrantedExactly, DepthGrantedExactly, VolumeRefused, DepthRefused, SixAreasSuffice, PastCountUnread, BySubAreasAlone}
 use Rattle.volume.proofs.Rising.{volume-zero, volume-rises, volume-strict, volume-fits}
 use Rattle.volume.proofs.Reaching.{depth-on-grid, depth-within, depth-largest}
 use Rattle.volume.proofs.Granting.{volume-only, volume-there, volume-own, volume-above, depth-only, depth-there, depth-own, depth-above}
@@ -47,6 +48,13 @@ six-areas-suffice = (
 pub past-count-unread : PastCountUnread
 unfolding volumeAnswer depthAnswer gatheredAnswer
 past-count-unread s t r =
-    let e = site.past-count-unread s t r .0 in
+    let e = record-past-count s t r .0 in
+    let p = r .parts in
+    (λ d. simp (e, p), λ v. simp (e, p), simp (e, p))
+
+pub by-sub-areas-alone : BySubAreasAlone
+unfolding volumeAnswer depthAnswer gatheredAnswer
+by-sub-areas-alone s t r =
+    let e = site.by-sub-areas-alone s t r .0 in
     let p = r .parts in
     (λ d. simp (e, p), λ v. simp (e, p), simp (e, p))

@@ -15,7 +15,7 @@ use Rattle.site.specs.declared.Site.{Site}
 use Rattle.site.specs.Parts.{partsOf, totalArea, imperviousArea}
 use Rattle.site.specs.Judging.{judged}
 use Rattle.site.specs.Judging as site
-use Rattle.site.specs.Promises.{Alike}
+use Rattle.site.specs.Promises.{Alike, SameSubAreas}
 use Rattle.volume.specs.Volume.{volumeOf, depthOf}
 use Rattle.volume.specs.Areas.{areasOf, volumeFrom}
 use Rattle.volume.specs.Answers.{volumeAnswer, depthAnswer, volumeOn, depthOn, gatheredAnswer, given}
@@ -85,6 +85,16 @@ abbrev pub PastCountUnread : Type 0
 PastCountUnread =
     (s t : Site)
     → Alike s t
+    → ((d : Depth) → volumeAnswer s d ≡ volumeAnswer t d)
+    × ((v : Volume) → depthAnswer s v ≡ depthAnswer t v)
+    × (gatheredAnswer s ≡ gatheredAnswer t)
+
+-- Two records that are judged fine and hold the same sub-areas have the same V and the same depth of a volume, and the same is
+-- gathered, whatever their numbers.
+abbrev pub BySubAreasAlone : Type 0
+BySubAreasAlone =
+    (s t : Site)
+    → SameSubAreas s t
     → ((d : Depth) → volumeAnswer s d ≡ volumeAnswer t d)
     × ((v : Volume) → depthAnswer s v ≡ depthAnswer t v)
     × (gatheredAnswer s ≡ gatheredAnswer t)

@@ -6,7 +6,7 @@ use Prim.Native.Nat.{_-_}
 use mathlib.Core.Path.{_≡_, sym, _∙_}
 use lib.ListN.{length, length-map}
 use Rattle.site.specs.Parts.{mostParts}
-use Rattle.credit.proofs.Surveying.{Surveying, survey-full, survey-starts, survey-ends, survey-refused, area-fits, product-fits, load-fits, survey-next}
+use Rattle.credit.proofs.Surveying.{Surveying, survey-full, survey-starts, survey-numbers, survey-counted, survey-unnumbered, survey-ends, survey-refused, area-fits, product-fits, load-fits, survey-next}
 use Rattle.credit.proofs.walk_under.Statement.{statement}
 use Rattle.credit.proofs.walk_under.Tie as tie
 
@@ -26,7 +26,8 @@ loop-holds : tie.Need-loop-holds Inv-loop μ-loop
 loop-holds c =
     let site = c .before .args .t1 in
     let len : length (site .parts) ≡ mostParts = sym (length-map (site .parts) _) ∙ c .before .good .0 .1 .1 .0 .1 .0 .1 in
-    survey-starts _ site (record { places = len; count = c .if1 .left })
+    let numbers : length (site .numbers) ≡ mostParts = sym (length-map (site .numbers) _) ∙ c .before .good .0 .1 .1 .1 .1 .0 .1 .0 .1 in
+    survey-starts _ site (record { places = len; count = c .if1 .left }) numbers
 
 mul-part : tie.Need-mul-part Inv-loop μ-loop
 mul-part c = search needs
@@ -34,8 +35,8 @@ mul-part c = search needs
 element-copy-out-part : tie.Need-element-copy-out-part Inv-loop μ-loop
 element-copy-out-part c = search needs
 
-add-answer-requires : tie.Need-add-answer-requires Inv-loop μ-loop
-add-answer-requires c κs = search needs
+try-part-requires : tie.Need-try-part-requires Inv-loop μ-loop
+try-part-requires c κs = search needs
 
 enum-known-answer : tie.Need-enum-known-answer Inv-loop μ-loop
 enum-known-answer c = search needs
@@ -70,7 +71,7 @@ mul-load c =
     (turn .before .loop .inv)
     (turn .loop-test .taken)
     _
-    (tried .add-answer .ensures)
+    (tried .try-part .ensures)
     _
     (told .answer .given .1)
     _
@@ -97,8 +98,23 @@ no-survey-requires-2 c κs = search needs
 returns-2 : tie.Need-returns-2 Inv-loop μ-loop
 returns-2 c = search (survey-refused, needs)
 
+array-share-prefix-numbers : tie.Need-array-share-prefix-numbers Inv-loop μ-loop
+array-share-prefix-numbers c = search (survey-numbers, needs)
+
+slice-aggregate-numbered : tie.Need-slice-aggregate-numbered Inv-loop μ-loop
+slice-aggregate-numbered c = search (survey-counted, needs)
+
+numbered-requires : tie.Need-numbered-requires Inv-loop μ-loop
+numbered-requires c κs = search needs
+
+no-survey-requires-3 : tie.Need-no-survey-requires-3 Inv-loop μ-loop
+no-survey-requires-3 c κs = search needs
+
 returns-3 : tie.Need-returns-3 Inv-loop μ-loop
-returns-3 c = search (survey-ends, needs)
+returns-3 c = search (survey-unnumbered, needs)
+
+returns-4 : tie.Need-returns-4 Inv-loop μ-loop
+returns-4 c = search (survey-ends, needs)
 
 pub walk-under-spec : {M : Type 1} → statement M
 walk-under-spec =
@@ -111,7 +127,7 @@ walk-under-spec =
     loop-holds
     mul-part
     element-copy-out-part
-    add-answer-requires
+    try-part-requires
     enum-known-answer
     area-place-requires
     mul-old
@@ -128,4 +144,9 @@ walk-under-spec =
     enum-known-answer-2
     no-survey-requires-2
     returns-2
-    returns-3)
+    array-share-prefix-numbers
+    slice-aggregate-numbered
+    numbered-requires
+    no-survey-requires-3
+    returns-3
+    returns-4)

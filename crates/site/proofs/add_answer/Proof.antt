@@ -1,8 +1,7 @@
 -- `site::add_answer` meets its contract: the tests that led to each answer are those of the definition, in its order.
 -- Assumes nothing.
 use borrow.Author.Needs.{needs}
-use Rattle.site.proofs.Tests.{sum-fits}
-use Rattle.site.proofs.Adding.{add-unfit, add-full, add-crowded, add-granted}
+use Rattle.site.proofs.Adding.{add-unfit, add-full, add-spent, add-grows}
 use Rattle.site.proofs.add_answer.Statement.{statement}
 use Rattle.site.proofs.add_answer.Tie as tie
 
@@ -15,19 +14,14 @@ returns c = search (add-unfit, needs)
 returns-2 : tie.Need-returns-2
 returns-2 c = search (add-full, needs)
 
-has-room-requires : tie.Need-has-room-requires
-has-room-requires c κs = search needs
-
 returns-3 : tie.Need-returns-3
-returns-3 c = search (add-crowded, needs)
+returns-3 c = search (add-spent, needs)
 
-add-t10 : tie.Need-add-t10
-add-t10 c = sum-fits _ _ (c .before .before .before .has-room .ensures) (c .before .before .if3 .left)
+grow-requires : tie.Need-grow-requires
+grow-requires c κs = search needs
 
 returns-4 : tie.Need-returns-4
-returns-4 c = search (add-granted, needs)
+returns-4 c = search (add-grows, needs)
 
 pub add-answer-spec : {M : Type 1} → statement M
-add-answer-spec =
-    tie.close
-    (tie.spec part-fits-requires returns returns-2 has-room-requires returns-3 add-t10 returns-4)
+add-answer-spec = tie.close (tie.spec part-fits-requires returns returns-2 returns-3 grow-requires returns-4)

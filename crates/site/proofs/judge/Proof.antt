@@ -5,7 +5,7 @@ use Prim.Native.Nat.{_-_}
 use mathlib.Core.Path.{_≡_, sym, _∙_}
 use lib.ListN.{length, length-map}
 use Rattle.site.specs.Parts.{mostParts}
-use Rattle.site.proofs.Walking.{Running, overfull, starts, passes, refuses, ends}
+use Rattle.site.proofs.Walking.{Running, overfull, starts, passes, refuses, numbers-there, numbers-counted, ends-fine, ends-unnumbered}
 use Rattle.site.proofs.judge.Statement.{statement}
 use Rattle.site.proofs.judge.Tie as tie
 
@@ -22,7 +22,8 @@ loop-holds : tie.Need-loop-holds Inv-loop μ-loop
 loop-holds c =
     let site = c .before .args .t1 in
     let len : length (site .parts) ≡ mostParts = sym (length-map (site .parts) _) ∙ c .before .good .0 .1 .1 .0 .1 .0 .1 in
-    starts site (record { places = len; count = c .if1 .left })
+    let numbers : length (site .numbers) ≡ mostParts = sym (length-map (site .numbers) _) ∙ c .before .good .0 .1 .1 .1 .1 .0 .1 .0 .1 in
+    starts site (record { places = len; count = c .if1 .left }) numbers
 
 mul-part : tie.Need-mul-part Inv-loop μ-loop
 mul-part c = search needs
@@ -30,8 +31,8 @@ mul-part c = search needs
 element-copy-out-part : tie.Need-element-copy-out-part Inv-loop μ-loop
 element-copy-out-part c = search needs
 
-add-answer-requires : tie.Need-add-answer-requires Inv-loop μ-loop
-add-answer-requires c κs = search needs
+try-part-requires : tie.Need-try-part-requires Inv-loop μ-loop
+try-part-requires c κs = search needs
 
 enum-known-answer : tie.Need-enum-known-answer Inv-loop μ-loop
 enum-known-answer c = search needs
@@ -51,8 +52,20 @@ enum-known-answer-2 c = search needs
 returns-2 : tie.Need-returns-2 Inv-loop μ-loop
 returns-2 c = search (refuses, needs)
 
+array-share-prefix-numbers : tie.Need-array-share-prefix-numbers Inv-loop μ-loop
+array-share-prefix-numbers c = search (numbers-there, needs)
+
+slice-aggregate-numbered : tie.Need-slice-aggregate-numbered Inv-loop μ-loop
+slice-aggregate-numbered c = search (numbers-counted, needs)
+
+numbered-requires : tie.Need-numbered-requires Inv-loop μ-loop
+numbered-requires c κs = search needs
+
 returns-3 : tie.Need-returns-3 Inv-loop μ-loop
-returns-3 c = search (ends, needs)
+returns-3 c = search (ends-unnumbered, needs)
+
+returns-4 : tie.Need-returns-4 Inv-loop μ-loop
+returns-4 c = search (ends-fine, needs)
 
 pub judge-spec : {M : Type 1} → statement M
 judge-spec =
@@ -64,11 +77,15 @@ judge-spec =
     loop-holds
     mul-part
     element-copy-out-part
-    add-answer-requires
+    try-part-requires
     enum-known-answer
     add-i
     loop-less
     loop-again
     enum-known-answer-2
     returns-2
-    returns-3)
+    array-share-prefix-numbers
+    slice-aggregate-numbered
+    numbered-requires
+    returns-3
+    returns-4)

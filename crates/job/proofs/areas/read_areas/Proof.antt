@@ -4,7 +4,7 @@ use Prim.Native.Nat.{_-_}
 use borrow.Author.Needs.{needs}
 use lib.ListN.{length}
 use native.Mathlib.Omega.{arith}
-use Rattle.site.proofs.Adding.{granted-place}
+use Rattle.site.proofs.Adding.{granted-place, granted-number}
 use Rattle.job.proofs.Walking.{Walked, walked-none, walked-bad, walked-refused, walked-shorter, walked-next, walked-end}
 use Rattle.job.proofs.areas.read_areas.Statement.{statement}
 use Rattle.job.proofs.areas.read_areas.Tie as tie
@@ -53,16 +53,29 @@ returns-2 c = search (walked-refused, needs)
 
 mul-part : tie.Need-mul-part Inv-loop μ-loop
 mul-part c =
-    let p = granted-place _ _ _ (c .before .before .before .add-answer .ensures) (c .before .answer .given .1) in
+    let p = granted-place _ _ _ _ (c .before .before .before .add-answer .ensures) (c .before .answer .given .1) in
     omega arith
 
 element-set-from-part : tie.Need-element-set-from-part Inv-loop μ-loop
 element-set-from-part c = search (granted-place, needs)
 
+mul-site : tie.Need-mul-site Inv-loop μ-loop
+mul-site c =
+    let p = granted-place _ _ _ _ (c .before .before .before .add-answer .ensures) (c .before .answer .given .1) in
+    omega arith
+
+element-write-site : tie.Need-element-write-site Inv-loop μ-loop
+element-write-site c = search (granted-place, needs)
+
 add-site : tie.Need-add-site Inv-loop μ-loop
 add-site c =
-    let p = granted-place _ _ _ (c .before .before .before .add-answer .ensures) (c .before .answer .given .1) in
+    let p = granted-place _ _ _ _ (c .before .before .before .add-answer .ensures) (c .before .answer .given .1) in
     omega arith
+
+add-site-2 : tie.Need-add-site-2 Inv-loop μ-loop
+add-site-2 c =
+    let p = granted-number _ _ _ _ (c .before .before .before .add-answer .ensures) (c .before .answer .given .1) in
+    search needs
 
 add-line : tie.Need-add-line Inv-loop μ-loop
 add-line c = search needs
@@ -99,7 +112,10 @@ read-areas-spec =
     returns-2
     mul-part
     element-set-from-part
+    mul-site
+    element-write-site
     add-site
+    add-site-2
     add-line
     loop-less
     loop-again
