@@ -1,9 +1,9 @@
 -- Laws of numbers that rise: the walk over them, what is asked of them, one more and one less.
 -- Assumes nothing.
 use Prim.Native.Nat.{ℕ, zero, suc, _+_, _≤_, _<_}
-use mathlib.Core.Bool.{true, false, and-eq-true-iff}
+use mathlib.Core.Bool.{Bool, true, false, _&&_, and-eq-true-iff, and-true, and-false, and-assoc}
 use mathlib.Core.List.{List, [], _∷_, _++_}
-use mathlib.Core.Path.{_≡_}
+use mathlib.Core.Path.{_≡_, sym, _∙_, ap}
 use native.Mathlib.Omega.{arith}
 use native.Mathlib.Numerals.{add-one}
 use lib.Dec.{ltb}
@@ -13,25 +13,32 @@ use borrow.Author.Tests.{lt-ltb, le-ltb, ltb-true}
 use Rattle.site.specs.Judging.{risesTo}
 use Rattle.site.specs.Promises.{Rise}
 
--- The numbers before place i rise up to `low`; what is left decides.
-abbrev pub Rising : ℕ → List ℕ → ℕ → ℕ → Type 0
-Rising counter ks low i = risesTo counter low (drop i ks) ≡ risesTo counter 0 ks
+-- A number above the last goes on with what rose so far,
+pub above-goes-on : (rises : Bool) (low n : ℕ) → low < n → rises ≡ (rises && ltb low n)
+above-goes-on rises low n h = rw (lt-ltb low n h) (sym (and-true rises))
 
-module _ (counter : ℕ) (ks : List ℕ) (low i : ℕ) (r : Rising counter ks low i) where
-  -- A number above the one before it goes on, and another stops the walk.
-  module _ (h : i < length ks) where
-    pub rise-on : low < getD ks i 0 → Rising counter ks (getD ks i 0) (i + 1)
-    unfolding risesTo
-    rise-on l = rw add-one (rw (drop-cons ks i 0 h, lt-ltb low (getD ks i 0) l) at r)
+-- and another ends it.
+pub below-ends : (rises : Bool) (low n : ℕ) → n ≤ low → false ≡ (rises && ltb low n)
+below-ends rises low n h = rw (le-ltb low n h) (sym (and-false rises))
 
-    pub rise-stops : getD ks i 0 ≤ low → false ≡ risesTo counter 0 ks
-    unfolding risesTo
-    rise-stops l = rw (drop-cons ks i 0 h, le-ltb low (getD ks i 0) l) at r
+-- Whether the numbers before place i rise, up to `low`, decides with what is left.
+abbrev pub Rising : ℕ → List ℕ → Bool → ℕ → ℕ → Type 0
+Rising counter ks rises low i = (rises && risesTo counter low (drop i ks)) ≡ risesTo counter 0 ks
 
-  -- Where none is left, the counter decides.
-  pub rise-ends : length ks ≤ i → ltb low counter ≡ risesTo counter 0 ks
+module _ (counter : ℕ) (ks : List ℕ) (rises : Bool) (low i : ℕ) (r : Rising counter ks rises low i) where
+  -- The number at place i goes on, or ends it,
+  pub rise-on : i < length ks → {b : Bool} → b ≡ (rises && ltb low (getD ks i 0)) → Rising counter ks b (getD ks i 0) (i + 1)
   unfolding risesTo
-  rise-ends h = rw (drop-of-length-le ks h) at r
+  rise-on h e =
+      rw add-one
+      (ap (λ (x : Bool). x && risesTo counter (getD ks i 0) (drop (suc i) ks)) e
+      ∙ and-assoc rises (ltb low (getD ks i 0)) (risesTo counter (getD ks i 0) (drop (suc i) ks))
+      ∙ (rw (drop-cons ks i 0 h) at r))
+
+  -- and where none is left, the counter does.
+  pub rise-ends : length ks ≤ i → {b : Bool} → b ≡ (rises && ltb low counter) → b ≡ risesTo counter 0 ks
+  unfolding risesTo
+  rise-ends h e = e ∙ (rw (drop-of-length-le ks h) at r)
 
 -- what is asked of numbers that rise from above `low`
 record RiseFrom (counter low : ℕ) (ks : List ℕ) : Type 0 where

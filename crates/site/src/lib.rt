@@ -1,5 +1,7 @@
 // Rules, "Site and load" and "Numbers of sub-areas": sub-areas, the site record that holds them, the judging of a record, adding to it
 // and removing from it.
+ghost use lib.Dec.{ltb};
+ghost use mathlib.Core.Bool.{_&&_};
 ghost use mathlib.Core.List.{[], _∷_};
 ghost use mathlib.Core.Path.{_≡_};
 ghost use Rattle.site.specs.Soils.{named, suits, columnOf, loadColumn, runoffColumn};
@@ -202,21 +204,31 @@ pub fn try_part(total: Area, part: SubArea) -> AreaAnswer
     grow(total, area)
 }
 
-// The numbers of a record are not refused 16: its counter is not 0, and they rise strictly from at least 1 and stay below it.
+// What rose so far goes on with a number that is above the last.
+fn goes_on(rises: bool, low: u32, number: u32) -> bool
+    ensures { λ r. ⌜ r ≡ (rises && ltb low number) ⌝ }
+{
+    if low < number {
+        return rises;
+    }
+    false
+}
+
+// The numbers of a record are not refused 16: its counter is not 0, and they rise strictly from at least 1 and stay below it. All are
+// looked at, wherever they fail: so the compiler takes several at once.
 pub fn numbered(numbers: &[u32], counter: u32) -> bool
     ensures { λ r. ⌜ r ≡ risesTo counter 0 (now (numbers .entry)) ⌝ }
 {
+    let mut rises = true;
     let mut low = 0;
     let mut at = 0;
     while at < numbers.len() {
         let number = numbers[at];
-        if number <= low {
-            return false;
-        }
+        rises = goes_on(rises, low, number);
         low = number;
         at += 1;
     }
-    low < counter
+    goes_on(rises, low, counter)
 }
 
 // A record that is judged fine answers with its total area: its count is tried, then each sub-area on those before it, then its
