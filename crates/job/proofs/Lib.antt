@@ -3,6 +3,7 @@ pub mod Valued
 pub mod Heads
 pub mod Fields
 pub mod AreaLines
+pub mod Telling
 pub mod Building
 pub mod Walking
 pub mod Whole

@@ -57,3 +57,41 @@ coverAt k = getD (cover.Imp ∷ cover.Per ∷ []) k cover.Imp
 
 abbrev pub soilAt : ℕ → Soil
 soilAt k = getD (soil.A ∷ soil.B ∷ soil.C ∷ soil.CD ∷ soil.D ∷ soil.U ∷ soil.NoSoil ∷ []) k soil.A
+
+-- the place of a case
+abbrev pub nutrientPlace : Nutrient → ℕ
+nutrientPlace P = 0
+nutrientPlace N = 1
+
+abbrev pub modePlace : Mode → ℕ
+modePlace Step = 0
+modePlace Mix = 1
+
+abbrev pub taskPlace : Task → ℕ
+taskPlace Load = 0
+taskPlace Credit = 1
+taskPlace Size = 2
+
+abbrev pub landPlace : LandUse → ℕ
+landPlace land.Com = 0
+landPlace land.Ind = 1
+landPlace land.Hdr = 2
+landPlace land.Mdr = 3
+landPlace land.Ldr = 4
+landPlace land.Hwy = 5
+landPlace land.For = 6
+landPlace land.Open = 7
+landPlace land.Ag = 8
+
+abbrev pub coverPlace : Cover → ℕ
+coverPlace cover.Imp = 0
+coverPlace cover.Per = 1
+
+abbrev pub soilPlace : Soil → ℕ
+soilPlace soil.A = 0
+soilPlace soil.B = 1
+soilPlace soil.C = 2
+soilPlace soil.CD = 3
+soilPlace soil.D = 4
+soilPlace soil.U = 5
+soilPlace soil.NoSoil = 6

@@ -15,7 +15,7 @@ use units::Rate;
 mod areas;
 mod head;
 mod numbers;
-mod words;
+pub mod words;
 
 pub enum Task {
     Load,

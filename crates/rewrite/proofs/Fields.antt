@@ -19,7 +19,7 @@ use Rattle.job.specs.Lines.{valueOf}
 use Rattle.job.specs.Areas.{subAreaOf, areaIn, addedLine}
 use Rattle.rewrite.specs.Rewriting.{cForU}
 use Rattle.rewrite.specs.Promises.{SoilAlone}
-use Rattle.rewrite.proofs.Telling.{Adds, line-reads, never-found, never-number, numeral-digits, digits-whole, keyed-line, first-field}
+use Rattle.job.proofs.Telling.{Adds, line-reads, never-found, never-number, numeral-digits, digits-whole, keyed-line, first-field}
 use Rattle.rewrite.proofs.Texts.{before-changed, after-changed, pieces-changed, free-stays, word-stays, digits-stay}
 use Rattle.rewrite.proofs.Lines.{linesOnC, keys-free, words-free, none-empty}
 

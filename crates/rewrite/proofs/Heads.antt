@@ -23,7 +23,7 @@ use Rattle.job.specs.Lines.{valueOf}
 use Rattle.job.specs.Head.{wordIn, numberIn, headFrom, headOf}
 use Rattle.job.specs.Reading.{headLines, behindHead}
 use Rattle.rewrite.specs.Rewriting.{letterU, cForU}
-use Rattle.rewrite.proofs.Telling.{Grants, head-reads, never-found, never-number, numeral-digits}
+use Rattle.job.proofs.Telling.{Grants, head-reads, never-found, never-number, numeral-digits}
 use Rattle.rewrite.proofs.Texts.{word-stays, digits-stay}
 use Rattle.rewrite.proofs.Lines.{linesOnC, keys-free, words-free, none-empty, line-stays, value-stays}
 

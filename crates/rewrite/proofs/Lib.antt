@@ -1,5 +1,4 @@
 pub mod Changing
-pub mod Telling
 pub mod Texts
 pub mod Lines
 pub mod Heads

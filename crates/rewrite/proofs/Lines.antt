@@ -15,7 +15,7 @@ use Rattle.job.specs.Words.{practiceWords, nutrientWords, modeWords, taskWords,
 use Rattle.job.specs.Lines.{valueOf}
 use Rattle.rewrite.specs.Rewriting.{letterU, cForU}
 use Rattle.rewrite.specs.Promises.{onC}
-use Rattle.rewrite.proofs.Telling.{keyed-line, Each, found-word}
+use Rattle.job.proofs.Telling.{keyed-line, Each, found-word}
 use Rattle.rewrite.proofs.Texts.{free-stays}
 
 abbrev pub linesOnC : List (List ℕ) → List (List ℕ)

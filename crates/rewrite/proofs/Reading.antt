@@ -33,7 +33,7 @@ use Rattle.job.specs.Areas.{subAreaFrom, subAreaOf, areaIn, addedLine, refusedA
 use Rattle.job.specs.Reading.{mostBytes, headLines, behindHead, readingOf}
 use Rattle.rewrite.specs.Rewriting.{cForU}
 use Rattle.rewrite.specs.Promises.{onC, siteOnC, SoilAlone}
-use Rattle.rewrite.proofs.Telling.{Grants, Adds, head-reads, line-reads, areas-read}
+use Rattle.job.proofs.Telling.{Grants, Adds, head-reads, line-reads, areas-read}
 use Rattle.rewrite.proofs.Texts.{pieces-changed}
 use Rattle.rewrite.proofs.Lines.{linesOnC, soil-on-c}
 use Rattle.rewrite.proofs.Heads.{head-said}

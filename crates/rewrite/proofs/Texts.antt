@@ -17,7 +17,7 @@ use Rattle.text.specs.Pieces.{indexOf, beforeOf, afterOf, joined, pieces}
 use Rattle.text.specs.Words.{placeFrom}
 use Rattle.text.proofs.Front.{free, allFree, all-free-parts}
 use Rattle.rewrite.specs.Rewriting.{letterU, letterC, cForU}
-use Rattle.rewrite.proofs.Telling.{Each, found-word, Digits}
+use Rattle.job.proofs.Telling.{Each, found-word, Digits}
 
 -- a byte that is neither U nor C
 abbrev other : ℕ → Bool
