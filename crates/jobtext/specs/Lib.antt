@@ -1,3 +1,4 @@
 pub mod Text
 pub mod Promises
+pub mod Inner
 pub mod Numbers

@@ -97,7 +97,6 @@ GrantedHolds =
 abbrev pub LongestSuffices : Type 0
 LongestSuffices =
     (buf : List ℕ) (j : Job) (s : Site)
-    → InMemory s
     → longest ≤ length buf
     → writtenGiven (jobWritten buf j s) .0 ≡ numberOf BufferTooShort
     → ⊥
