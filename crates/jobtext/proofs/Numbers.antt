@@ -2,23 +2,23 @@
 -- Assumes nothing.
 use mathlib.Core.Path.{refl}
 use mathlib.Core.List.{flatten}
-use Rattle.laws.specs.Table.{valuesFrom}
 use Rattle.site.specs.Judging.{judgedFrom, risesTo, judged}
 use Rattle.text.specs.Pieces.{joined, pieces}
 use Rattle.text.specs.Numbers.{decimalFrom, decimalOf}
 use Rattle.writing.specs.Lines.{lineWith}
 use Rattle.writing.specs.Writing.{pasted, writtenOf, bufferOf}
 use Rattle.jobtext.specs.Text.{areaText, jobText, jobWritten, jobBuffer}
+use Rattle.jobtext.specs.Records.{storedAll}
 use Rattle.jobtext.specs.Numbers.{SampleWritten, Lengths, Written}
 
 pub sample-written : SampleWritten
-unfolding jobText areaText lineWith flatten decimalOf decimalFrom pieces joined
+unfolding storedAll jobText areaText lineWith flatten decimalOf decimalFrom pieces joined
 sample-written = refl
 
 pub lengths : Lengths
-unfolding jobText areaText lineWith flatten decimalOf decimalFrom pieces joined
+unfolding storedAll jobText areaText lineWith flatten decimalOf decimalFrom pieces joined
 lengths = refl
 
 pub written : Written
-unfolding jobWritten jobBuffer judged judgedFrom risesTo writtenOf bufferOf pasted valuesFrom jobText areaText lineWith flatten decimalOf decimalFrom pieces joined
+unfolding jobWritten jobBuffer judged judgedFrom risesTo writtenOf bufferOf pasted storedAll jobText areaText lineWith flatten decimalOf decimalFrom pieces joined
 written = refl

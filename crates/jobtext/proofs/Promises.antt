@@ -11,7 +11,6 @@ use borrow.Author.Tests.{lt-ltb, le-ltb}
 use lib.Dec.{lit<, lit≤}
 use lib.ListN.{length, take, drop, length-append, length-drop}
 use lib.Seq.{take-append-seam, drop-append-seam}
-use Rattle.laws.specs.Table.{valuesFrom}
 use Rattle.laws.proofs.Order.{lt-or-le, never-both}
 use Rattle.refusal.specs.declared.Refusal.{Refusal}
 use Rattle.refusal.specs.declared.Refusal.the-variants.{MalformedText, BufferTooShort}
@@ -35,13 +34,14 @@ use Rattle.writing.specs.Writing.{pasted, bufferOf, writtenGiven}
 use Rattle.writing.proofs.Writing.{granted-length}
 use Rattle.jobtext.specs.Text.{areaText, jobText, jobWritten, jobBuffer}
 use Rattle.jobtext.specs.Promises.{Writable, LongestReached, WriteTries, WriteOrder, RefusedKeeps, GrantedHolds, LongestSuffices}
+use Rattle.jobtext.specs.Records.{storedAll}
 use Rattle.jobtext.specs.Numbers.{longestJob, longestSite}
 use Rattle.jobtext.specs.Inner.{passes}
 use Rattle.jobtext.proofs.Lengths.{job-short}
 use Rattle.jobtext.proofs.Writing.{Tested, tested, tests-pass, record-stops, record-keeps, tests-stop, tests-keep, short-stops, short-keeps, put-answers, put-holds}
 
 pub longest-reached : LongestReached
-unfolding judged judgedFrom risesTo valuesFrom jobText areaText lineWith flatten decimalOf decimalFrom pieces joined
+unfolding judged judgedFrom risesTo storedAll jobText areaText lineWith flatten decimalOf decimalFrom pieces joined
 longest-reached = (
   longestJob,
   longestSite,

@@ -1,4 +1,5 @@
 pub mod Text
+pub mod Records
 pub mod Promises
 pub mod Inner
 pub mod Numbers

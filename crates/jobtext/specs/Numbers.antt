@@ -1,6 +1,6 @@
 -- Rules, "Writing a job": numbers of written jobs, all together as one list. Proved in proofs/Numbers.antt.
 -- Assumes nothing.
-use Prim.Native.Nat.{ℕ, _+_, _-_, _^_}
+use Prim.Native.Nat.{ℕ, _^_}
 use mathlib.Core.List.{List, [], _∷_, _++_}
 use mathlib.Core.Path.{_≡_}
 use lib.ListN.{length, replicate}
@@ -14,26 +14,16 @@ use Rattle.site.specs.declared.Soil.{Soil}
 use Rattle.site.specs.declared.Soil.the-variants.{C, CD, NoSoil}
 use Rattle.site.specs.declared.SubArea.{SubArea}
 use Rattle.site.specs.declared.Site.{Site}
-use Rattle.site.specs.Parts.{mostParts, partsOf, blank, emptySite}
-use Rattle.site.specs.Runs.{upFrom}
+use Rattle.site.specs.Parts.{partsOf, emptySite}
 use Rattle.curve.specs.declared.Mode.the-variants.{Step, Mix}
 use Rattle.job.specs.declared.Task.the-variants.{Load, Credit}
 use Rattle.job.specs.declared.Job.{Job}
 use Rattle.writing.specs.Writing.{writtenGiven}
 use Rattle.jobtext.specs.Text.{jobText, jobWritten, jobBuffer, longest}
+use Rattle.jobtext.specs.Records.{siteOf}
 
 abbrev part : LandUse → Cover → Soil → ℕ → SubArea
 part land cover soil area = record { land = land; cover = cover; soil = soil; area = record { 0 = area } }
-
--- a record that holds some sub-areas, with the numbers of a site that is built afresh
-abbrev pub holding : List SubArea → Site
-holding ps =
-    record {
-      parts = ps ++ replicate (mostParts - length ps) blank;
-      count = length ps;
-      numbers = upFrom 1 (length ps) ++ replicate (mostParts - length ps) 0;
-      counter = length ps + 1;
-    }
 
 -- jobs/sample.job as a job and a site, with another practice, rate and amount
 abbrev load : ℕ → ℕ → ℕ → Job
@@ -44,7 +34,7 @@ abbrev pub sampleJob : Job
 sampleJob = load 1 0 0
 
 abbrev pub sampleSite : Site
-sampleSite = holding (part Ind Imp NoSoil 1_013 ∷ part Com Per C 185 ∷ part For Per C 89 ∷ [])
+sampleSite = siteOf (part Ind Imp NoSoil 1_013 ∷ part Com Per C 185 ∷ part For Per C 89 ∷ [])
 
 abbrev pub sampleText : List ℕ
 sampleText =
@@ -60,13 +50,13 @@ longestJob =
     record { practice = 2; nutrient = P; mode = Step; rate = record { 0 = 99_999_999_999_999 }; task = Credit; amount = 99_999_999_999_999 }
 
 abbrev pub longestSite : Site
-longestSite = holding (replicate 7 (part Open Per CD 100_000) ++ replicate 25 (part Open Per CD 10_000))
+longestSite = siteOf (replicate 7 (part Open Per CD 100_000) ++ replicate 25 (part Open Per CD 10_000))
 
 abbrev pub shortestJob : Job
 shortestJob = record { practice = 4; nutrient = P; mode = Mix; rate = record { 0 = 0 }; task = Load; amount = 0 }
 
 abbrev pub shortestSite : Site
-shortestSite = holding (part Ag Imp NoSoil 1 ∷ [])
+shortestSite = siteOf (part Ag Imp NoSoil 1 ∷ [])
 
 abbrev pub Lengths : Type 0
 Lengths =
