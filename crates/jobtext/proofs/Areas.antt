@@ -20,11 +20,11 @@ use Rattle.site.specs.declared.AreaAnswer.{AreaAnswer}
 use Rattle.site.specs.declared.AreaAnswer.the-variants as area
 use Rattle.site.specs.Soils.{suits}
 use Rattle.site.specs.Parts.{mostParts, partsOf, areaOf, totalArea}
-use Rattle.site.specs.Judging.{fits, judged, given}
+use Rattle.site.specs.Judging.{fits, given}
 use Rattle.site.specs.Adding.{added}
 use Rattle.site.specs.Promises.{allFit}
 use Rattle.site.proofs.Promises.{given-granted, add-granted-exactly, granted-holds, stores}
-use Rattle.text.specs.Pieces.{lineFeed, joined, pieces}
+use Rattle.text.specs.Pieces.{lineFeed, pieces}
 use Rattle.text.specs.Numbers.{mostDigits}
 use Rattle.text.proofs.Joining.{together}
 use Rattle.job.specs.declared.Job.{Job}
@@ -35,7 +35,8 @@ use Rattle.job.specs.Areas.{areaIn, addedLine, refusedAt, endedAt, areasFrom}
 use Rattle.job.proofs.Telling.{Grants, Adds, areas-read}
 use Rattle.job.proofs.Building.{Built, built-unspent, built-more}
 use Rattle.jobtext.specs.Text.{areaText}
-use Rattle.jobtext.proofs.Lines.{some-line, area-first, area-added, area-written}
+use Rattle.jobtext.proofs.Lines.{some-line}
+use Rattle.jobtext.proofs.AreaLines.{area-first, area-added, area-written}
 
 -- the lines of some sub-areas
 abbrev pub areasText : List SubArea → List ℕ
@@ -131,7 +132,7 @@ areas-back job (p ∷ ps) k s total b room some =
     })
 
 -- What lines that read tell: the job, a site that is built, and the bytes, which are those of the sub-areas that they add.
-pub record Told (job : Job) (s : Site) (ls : List (List ℕ)) (r : Reading) : Type 0 where
+pub record AreasTold (job : Job) (s : Site) (ls : List (List ℕ)) (r : Reading) : Type 0 where
   pub answer : r .answer ≡ Granted job
   pub built : (total : Area) × Built (r .site) total
   pub some : 1 ≤ r .site .count
@@ -143,7 +144,7 @@ text-more [] p = append-nil (areaText p)
 text-more (q ∷ ps) p = ap (λ (t : List ℕ). areaText q ++ t) (text-more ps p) ∙ sym (append-assoc (areaText q) (areasText ps) (areaText p))
 
 ended-told : (job : Job) (ls : List (List ℕ)) (rest : List ℕ) (k : ℕ) (s : Site) (total : Area) → Built s total → together lineFeed ls ≡ rest
-    → Grants (endedAt job rest k s .answer) → Told job s ls (endedAt job rest k s)
+    → Grants (endedAt job rest k s .answer) → AreasTold job s ls (endedAt job rest k s)
 ended-told job ls rest k s total b last = at (eqb (length rest) 0 && leb 1 (s .count)) refl
   where
     empty : (t : List ℕ) → length t ≡ 0 → t ≡ []
@@ -152,7 +153,7 @@ ended-told job ls rest k s total b last = at (eqb (length rest) 0 && leb 1 (s .c
 
     at : (e : Bool) → (eqb (length rest) 0 && leb 1 (s .count)) ≡ e
         → Grants (cond e (record { answer = Granted job; site = s }) (refusedAt k MalformedText) .answer)
-        → Told job s ls (cond e (record { answer = Granted job; site = s }) (refusedAt k MalformedText))
+        → AreasTold job s ls (cond e (record { answer = Granted job; site = s }) (refusedAt k MalformedText))
     at true e g =
         let none = eqb-true (length rest) 0 (and-left (eqb (length rest) 0) (leb 1 (s .count)) e) in
         record {
@@ -169,8 +170,8 @@ adds-granted (area.Refused why) g = absurd g
 
 line-told : (job : Job) (line next : List ℕ) (others : List (List ℕ)) (k : ℕ) (s : Site) (total : Area) → Built s total
     → Adds (addedLine s (areaIn (line ∷ next ∷ others)) .answer)
-    → ((t : Site) (more : Area) → addedLine s (areaIn (line ∷ next ∷ others)) .site ≡ t → Built t more → Told job t (next ∷ others) (areasFrom job (next ∷ others) (k + 1) t))
-    → Told job s (line ∷ next ∷ others) (areasFrom job (line ∷ next ∷ others) k s)
+    → ((t : Site) (more : Area) → addedLine s (areaIn (line ∷ next ∷ others)) .site ≡ t → Built t more → AreasTold job t (next ∷ others) (areasFrom job (next ∷ others) (k + 1) t))
+    → AreasTold job s (line ∷ next ∷ others) (areasFrom job (line ∷ next ∷ others) k s)
 line-told job line next others k s total b g later =
     let w = area-written s (line ∷ next ∷ others) g in
     let p = w .0 in
@@ -190,10 +191,10 @@ line-told job line next others k s total b g later =
     })
 
 pub areas-told : (job : Job) (ls : List (List ℕ)) (k : ℕ) (s : Site) → Grants (areasFrom job ls k s .answer)
-    → (total : Area) → Built s total → Told job s ls (areasFrom job ls k s)
+    → (total : Area) → Built s total → AreasTold job s ls (areasFrom job ls k s)
 unfolding areasFrom together
 areas-told job =
-    areas-read job (λ ls k s. (total : Area) → Built s total → Told job s ls (areasFrom job ls k s))
+    areas-read job (λ ls k s. (total : Area) → Built s total → AreasTold job s ls (areasFrom job ls k s))
     (λ k s g total b. ended-told job [] [] k s total b refl g)
     (λ rest k s g total b. ended-told job (rest ∷ []) rest k s total b refl g)
     (λ line next others k s g later total b. line-told job line next others k s total b g (λ t more e c. rw e at later more c))

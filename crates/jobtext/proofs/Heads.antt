@@ -2,7 +2,7 @@
 -- Assumes nothing.
 use Prim.Native.Nat.{ℕ, _+_, _^_, _≤_, _<_}
 use mathlib.Core.Bool.{true}
-use mathlib.Core.List.{List, [], _∷_, _++_, flatten, map}
+use mathlib.Core.List.{List, _∷_, _++_, flatten, map}
 use mathlib.Core.Path.{_≡_, refl, sym, _∙_, ap}
 use native.Mathlib.Omega.{arith}
 use lib.Dec.{lit<}
@@ -30,7 +30,7 @@ use Rattle.job.specs.Areas.{areasFrom}
 use Rattle.job.specs.Reading.{headLines, behindHead}
 use Rattle.job.proofs.Telling.{Grants, head-reads}
 use Rattle.jobtext.specs.Text.{wordAt, areaText, jobText}
-use Rattle.jobtext.proofs.Words.{Found, Spells, practice-reads, nutrient-reads, mode-reads, task-reads, practice-written, nutrient-written, mode-written, task-written, words-ended}
+use Rattle.jobtext.proofs.Words.{FoundAt, Spells, practice-reads, nutrient-reads, mode-reads, task-reads, practice-written, nutrient-written, mode-written, task-written, words-ended}
 use Rattle.jobtext.proofs.Lines.{first-line, own-value, some-line, line-written}
 
 -- a line of a word and one of a number, written in front of a text
@@ -43,7 +43,7 @@ number-first : (key : List ℕ) (n : ℕ) → free lineFeed key ≡ true → (t 
 number-first key n f t = first-line key (decimalOf n) f (digits-free lineFeed n (lit< tt)) t
 
 -- what they say where lines stand behind them
-word-says : (key words : List ℕ) (k : ℕ) (ls : List (List ℕ)) → 1 ≤ length ls → Found words k
+word-says : (key words : List ℕ) (k : ℕ) (ls : List (List ℕ)) → 1 ≤ length ls → FoundAt words k
     → placeOf words (valueOf key ((key ++ wordAt words k) ∷ ls)) ≡ At k
 word-says key words k ls h e = ap (placeOf words) (own-value key (wordAt words k) ls h) ∙ e
 
@@ -107,7 +107,7 @@ module _ (j : Job) (ps : List SubArea) where
 
 -- What a head that reads tells: the job, whose areas are read behind it, and the bytes, which are the job's where those behind the head
 -- are some sub-areas'.
-pub record Told (lines : List (List ℕ)) (r : Reading) : Type 0 where
+pub record HeadTold (lines : List (List ℕ)) (r : Reading) : Type 0 where
   pub job : Job
   pub read : r ≡ areasFrom job (drop headLines lines) (headLines + 1) emptySite
   pub practice : job .practice ≤ 8
@@ -139,7 +139,7 @@ module _ (lines : List (List ℕ)) where
       → numberIn lines 3 (bytes "rate=") ≡ Is r
       → wordIn lines 4 (bytes "task=") taskWords ≡ At t
       → numberIn lines 5 (bytes "amount=") ≡ Is a
-      → Told lines (behindHead (headFrom (At p) (At n) (At m) (Is r) (At t) (Is a)) lines)
+      → HeadTold lines (behindHead (headFrom (At p) (At n) (At m) (Is r) (At t) (Is a)) lines)
   unfolding headFrom behindHead jobText flatten
   told p n m r t a e1 e2 e3 e4 e5 e6 =
       let practice = practice-written (valueOf (bytes "practice=") lines) e1 in
@@ -163,7 +163,7 @@ module _ (lines : List (List ℕ)) where
             (number-line 5 (bytes "amount=") e6 ∙ ap (λ (u : List ℕ). lineOf (bytes "amount=") a ++ u) f)))));
       }
 
-  pub head-told : Grants (behindHead (headOf lines) lines .answer) → Told lines (behindHead (headOf lines) lines)
+  pub head-told : Grants (behindHead (headOf lines) lines .answer) → HeadTold lines (behindHead (headOf lines) lines)
   unfolding headOf
   head-told g =
       head-reads
@@ -174,6 +174,6 @@ module _ (lines : List (List ℕ)) where
       → numberIn lines 3 (bytes "rate=") ≡ r
       → wordIn lines 4 (bytes "task=") taskWords ≡ t
       → numberIn lines 5 (bytes "amount=") ≡ a
-      → Told lines (behindHead (headFrom p n m r t a) lines))
+      → HeadTold lines (behindHead (headFrom p n m r t a) lines))
       told
       _ _ _ _ _ _ lines g refl refl refl refl refl refl

@@ -29,11 +29,11 @@ use Rattle.job.proofs.Telling.{Each, found-word}
 use Rattle.jobtext.specs.Text.{wordAt}
 
 -- the word at a place is found there
-abbrev pub Found : List ℕ → ℕ → Type 0
-Found words k = placeOf words (wordAt words k) ≡ At k
+abbrev pub FoundAt : List ℕ → ℕ → Type 0
+FoundAt words k = placeOf words (wordAt words k) ≡ At k
 
 -- The word of a practice is found at its number,
-pub practice-reads : (k : ℕ) → k ≤ 8 → Found practiceWords k
+pub practice-reads : (k : ℕ) → k ≤ 8 → FoundAt practiceWords k
 unfolding placeFrom sameOf pieces joined
 practice-reads zero h = refl
 practice-reads (suc zero) h = refl
@@ -47,23 +47,23 @@ practice-reads (suc (suc (suc (suc (suc (suc (suc (suc zero)))))))) h = refl
 practice-reads (suc (suc (suc (suc (suc (suc (suc (suc (suc k))))))))) h = absurd (omega arith)
 
 -- and that of a case at the place at which the case stands.
-pub nutrient-reads : (c : Nutrient) → Found nutrientWords (nutrientPlace c) × (nutrientAt (nutrientPlace c) ≡ c)
+pub nutrient-reads : (c : Nutrient) → FoundAt nutrientWords (nutrientPlace c) × (nutrientAt (nutrientPlace c) ≡ c)
 unfolding placeFrom sameOf pieces joined
 nutrient-reads P = (refl, refl)
 nutrient-reads N = (refl, refl)
 
-pub mode-reads : (c : Mode) → Found modeWords (modePlace c) × (modeAt (modePlace c) ≡ c)
+pub mode-reads : (c : Mode) → FoundAt modeWords (modePlace c) × (modeAt (modePlace c) ≡ c)
 unfolding placeFrom sameOf pieces joined
 mode-reads Step = (refl, refl)
 mode-reads Mix = (refl, refl)
 
-pub task-reads : (c : Task) → Found taskWords (taskPlace c) × (taskAt (taskPlace c) ≡ c)
+pub task-reads : (c : Task) → FoundAt taskWords (taskPlace c) × (taskAt (taskPlace c) ≡ c)
 unfolding placeFrom sameOf pieces joined
 task-reads Load = (refl, refl)
 task-reads Credit = (refl, refl)
 task-reads Size = (refl, refl)
 
-pub land-reads : (c : LandUse) → Found landWords (landPlace c) × (landAt (landPlace c) ≡ c)
+pub land-reads : (c : LandUse) → FoundAt landWords (landPlace c) × (landAt (landPlace c) ≡ c)
 unfolding placeFrom sameOf pieces joined
 land-reads land.Com = (refl, refl)
 land-reads land.Ind = (refl, refl)
@@ -75,12 +75,12 @@ land-reads land.For = (refl, refl)
 land-reads land.Open = (refl, refl)
 land-reads land.Ag = (refl, refl)
 
-pub cover-reads : (c : Cover) → Found coverWords (coverPlace c) × (coverAt (coverPlace c) ≡ c)
+pub cover-reads : (c : Cover) → FoundAt coverWords (coverPlace c) × (coverAt (coverPlace c) ≡ c)
 unfolding placeFrom sameOf pieces joined
 cover-reads cover.Imp = (refl, refl)
 cover-reads cover.Per = (refl, refl)
 
-pub soil-reads : (c : Soil) → Found soilWords (soilPlace c) × (soilAt (soilPlace c) ≡ c)
+pub soil-reads : (c : Soil) → FoundAt soilWords (soilPlace c) × (soilAt (soilPlace c) ≡ c)
 unfolding placeFrom sameOf pieces joined
 soil-reads soil.A = (refl, refl)
 soil-reads soil.B = (refl, refl)
@@ -90,7 +90,7 @@ soil-reads soil.D = (refl, refl)
 soil-reads soil.U = (refl, refl)
 soil-reads soil.NoSoil = (refl, refl)
 
--- a text that is the word at a place
+-- a text that is the word at a place, and not empty
 abbrev pub Spells : List ℕ → ℕ → List ℕ → Type 0
 Spells words k v = (1 ≤ length v) × (wordAt words k ≡ v)
 
@@ -124,26 +124,20 @@ task-written v e =
     ((omega arith, refl), ((omega arith, refl), ((omega arith, refl), tt)))
     e
 
-pub land-written : (v : List ℕ) {k : ℕ} → placeOf landWords v ≡ At k → Spells landWords (landPlace (landAt k)) v
+pub land-written : (v : List ℕ) {k : ℕ} → placeOf landWords v ≡ At k → wordAt landWords (landPlace (landAt k)) ≡ v
 unfolding Each pieces joined
 land-written v e =
-    found-word (λ w k. Spells landWords (landPlace (landAt k)) w) (pieces space landWords) v 0
-    ((omega arith, refl), ((omega arith, refl), ((omega arith, refl), ((omega arith, refl), ((omega arith, refl), ((omega arith, refl), ((omega arith, refl), ((omega arith, refl), ((omega arith, refl), tt)))))))))
-    e
+    found-word (λ w k. wordAt landWords (landPlace (landAt k)) ≡ w) (pieces space landWords) v 0 (refl, (refl, (refl, (refl, (refl, (refl, (refl, (refl, (refl, tt))))))))) e
 
-pub cover-written : (v : List ℕ) {k : ℕ} → placeOf coverWords v ≡ At k → Spells coverWords (coverPlace (coverAt k)) v
+pub cover-written : (v : List ℕ) {k : ℕ} → placeOf coverWords v ≡ At k → wordAt coverWords (coverPlace (coverAt k)) ≡ v
 unfolding Each pieces joined
 cover-written v e =
-    found-word (λ w k. Spells coverWords (coverPlace (coverAt k)) w) (pieces space coverWords) v 0
-    ((omega arith, refl), ((omega arith, refl), tt))
-    e
+    found-word (λ w k. wordAt coverWords (coverPlace (coverAt k)) ≡ w) (pieces space coverWords) v 0 (refl, (refl, tt)) e
 
-pub soil-written : (v : List ℕ) {k : ℕ} → placeOf soilWords v ≡ At k → Spells soilWords (soilPlace (soilAt k)) v
+pub soil-written : (v : List ℕ) {k : ℕ} → placeOf soilWords v ≡ At k → wordAt soilWords (soilPlace (soilAt k)) ≡ v
 unfolding Each pieces joined
 soil-written v e =
-    found-word (λ w k. Spells soilWords (soilPlace (soilAt k)) w) (pieces space soilWords) v 0
-    ((omega arith, refl), ((omega arith, refl), ((omega arith, refl), ((omega arith, refl), ((omega arith, refl), ((omega arith, refl), ((omega arith, refl), tt)))))))
-    e
+    found-word (λ w k. wordAt soilWords (soilPlace (soilAt k)) ≡ w) (pieces space soilWords) v 0 (refl, (refl, (refl, (refl, (refl, (refl, (refl, tt))))))) e
 
 -- No word holds a line feed, and none of a sub-area a comma.
 pub words-ended : (allFree lineFeed (pieces space practiceWords) ≡ true) × (allFree lineFeed (pieces space nutrientWords) ≡ true) × (allFree lineFeed (pieces space modeWords) ≡ true) × (allFree lineFeed (pieces space taskWords) ≡ true) × (allFree lineFeed (pieces space landWords) ≡ true) × (allFree lineFeed (pieces space coverWords) ≡ true) × (allFree lineFeed (pieces space soilWords) ≡ true)

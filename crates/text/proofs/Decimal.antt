@@ -112,11 +112,13 @@ far-enough zero (suc j) n h g = rw (lt-ltb n 10 (omega arith))
 far-enough (suc k) zero n h g = rw (lt-ltb n 10 (omega arith))
 far-enough (suc k) (suc j) n h g = rw (far-enough k j (n / 10) (omega arith) (omega arith))
 
+-- A number below ten is one digit,
 pub one-digit : (n : ℕ) → n < 10 → decimalOf n ≡ (digitZero + n) ∷ []
 unfolding decimalOf decimalFrom
 one-digit zero h = refl
 one-digit (suc n) h = rw (lt-ltb (suc n) 10 h)
 
+-- and the last digit of any other is its rest by ten, behind the digits of its tenth.
 pub last-digit : (n : ℕ) → 10 ≤ n → decimalOf n ≡ decimalOf (n / 10) ++ ((digitZero + n % 10) ∷ [])
 unfolding decimalOf decimalFrom
 last-digit zero h = absurd (omega arith)
@@ -144,6 +146,7 @@ first-digit x s v {n} e = at (leb digitZero x && leb x digitNine) refl e
     )
     at false d f = let z : _≡_ {A = ℕ} 0 1 = cc in absurd (omega arith)
 
+-- behind a number that is not 0 they are the last digits of the number that they make with it, which is as small as they are few
 digits-behind : (s : List ℕ) (v : ℕ) {n : ℕ} → 1 ≤ v → digitsFrom s v ≡ Is n → decimalOf n ≡ decimalOf v ++ s
 unfolding digitsFrom
 digits-behind [] v {n} h e = let same : v ≡ n = cc in sym (append-nil (decimalOf v) ∙ ap decimalOf same)
@@ -166,6 +169,7 @@ digits-below (x ∷ s) v i h e =
     let long : suc i + length s ≡ i + suc (length s) = omega arith in
     rw long at (digits-below s (v * 10 + (x - digitZero)) (suc i) (rw (pow-suc 10 i) (omega arith)) (f .2))
 
+-- digits without a leading zero are those of the number that they make
 all-digits : (s : List ℕ) {n : ℕ} → 1 ≤ length s → leadingZero s ≡ false → digitsFrom s 0 ≡ Is n → decimalOf n ≡ s
 unfolding digitsFrom
 all-digits [] some led e = absurd (omega arith)

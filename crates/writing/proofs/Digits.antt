@@ -1,4 +1,4 @@
--- A number's digits: the last is its rest by ten, and those before it are the digits of its tenth; how many there are, and how a part is filled with them.
+-- A number's digits: how many there are, and how a part is filled with them.
 -- Assumes nothing.
 use Prim.Native.Nat.{ℕ, zero, suc, _+_, _-_, _*_, _/_, _%_, _^_, _≤_, _<_}
 use mathlib.Core.Path.{_≡_, refl, sym, _∙_, ap}
@@ -10,7 +10,6 @@ use native.Mathlib.Omega.{arith}
 use lib.Dec.{lit<}
 use lib.ListN.{length, take, drop, set, length-append, length-set}
 use lib.Seq.{length-take-le, drop-length, set-split, drop-at}
-use borrow.Author.Tests.{lt-ltb, le-ltb}
 use Rattle.laws.proofs.Order.{lt-or-le}
 use Rattle.text.specs.Numbers.{digitZero, decimalOf}
 use Rattle.text.proofs.Decimal.{one-digit, last-digit}
