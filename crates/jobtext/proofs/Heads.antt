@@ -51,6 +51,7 @@ number-says : (key : List ℕ) (n : ℕ) (ls : List (List ℕ)) → 1 ≤ length
     → numeralOf (valueOf key ((key ++ decimalOf n) ∷ ls)) ≡ Is n
 number-says key n ls h l = ap numeralOf (own-value key (decimalOf n) ls h) ∙ written-reads-back n l
 
+-- the lines of a text that is written
 module _ (j : Job) (ps : List SubArea) where
   abbrev behind : List (List ℕ)
   behind = linesOf (flatten (map areaText ps))
@@ -105,8 +106,8 @@ module _ (j : Job) (ps : List SubArea) where
       (headLines + 1)
       emptySite))
 
--- What a head that reads tells: the job, whose areas are read behind it, and the bytes, which are the job's where those behind the head
--- are some sub-areas'.
+-- What a head that reads tells: the job, whose areas are read behind it, and the bytes, which are those of the job's text where the
+-- bytes behind the head are those of some sub-areas.
 pub record HeadTold (lines : List (List ℕ)) (r : Reading) : Type 0 where
   pub job : Job
   pub read : r ≡ areasFrom job (drop headLines lines) (headLines + 1) emptySite

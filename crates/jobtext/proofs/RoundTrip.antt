@@ -67,6 +67,7 @@ lines-read text = at (ltb mostBytes (length text))
     at true g = absurd g
     at false g = refl
 
+-- Head and areas tell its bytes.
 pub writes-back : WritesBack
 unfolding flatten
 writes-back text j s e =
@@ -96,6 +97,7 @@ granted-job : (x : JobAnswer) → given x .0 ≡ granted → (j : Job) × (x ≡
 granted-job (Granted j) e = (j, refl)
 granted-job (Refused why k) e = absurd (refusal-not-granted why e)
 
+-- The other promises, from the one that no text that is written is too long to be read.
 module _ (bounded : NeverTooLong) where
   short : (j : Job) (s : Site) → Writable j s → length (jobText j (partsOf s)) ≤ mostBytes
   short j s w =

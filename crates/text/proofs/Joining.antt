@@ -1,4 +1,4 @@
--- Pieces put together again: a text is its pieces with the byte between each two, and what is put in front of that byte is its first piece.
+-- Pieces put together again: a text is its pieces with the byte between each two, and what stands in front of that byte is its first.
 -- Assumes nothing.
 use Prim.Native.Nat.{ℕ, zero, suc, _+_, _/_, _%_, _≤_, _<_}
 use mathlib.Core.Path.{_≡_, refl, sym, _∙_, ap}
