@@ -27,7 +27,8 @@ use Rattle.answer.specs.Outcomes.{given}
 use Rattle.answer.specs.Lines.{basisWord, grantedLines, answerText, longest, longestRefused}
 use Rattle.answer.specs.Promises.{Wide}
 use Rattle.writing.specs.Lines.{lineWith, lineOf, wordAt}
-use Rattle.writing.proofs.Digits.{one-digit, few-digits, word-digits}
+use Rattle.text.proofs.Decimal.{one-digit}
+use Rattle.writing.proofs.Digits.{few-digits, word-digits}
 use Rattle.writing.proofs.Rest.{Begun, begun-none}
 
 never-granted : (why : Refusal) → eqb (numberOf why) granted ≡ false

@@ -6,3 +6,9 @@ pub mod Pieces
 pub mod Writing
 pub mod Promises
 pub mod Numbers
+pub mod Words
+pub mod Lines
+pub mod AreaLines
+pub mod Heads
+pub mod Areas
+pub mod RoundTrip

@@ -69,3 +69,9 @@ same-so-equal (x ∷ s) (y ∷ t) e = heads (eqb x y) refl e (same-so-equal s t)
         let q = tails e in
         cc
     heads false h e tails = cc
+
+-- A text is the same as itself.
+pub same-itself : (s : List ℕ) → sameOf s s ≡ true
+unfolding sameOf
+same-itself [] = refl
+same-itself (x ∷ s) = rw (eq-eqb x x refl) (same-itself s)

@@ -78,8 +78,8 @@ piece-bytes b s k =
     let e : from + indexOf b (drop from s) - from ≡ indexOf b (drop from s) = omega arith in
     rw (part-tail s from, e) (piece-first b s k)
 
--- a text has a first piece
-some-piece : (b : ℕ) (t : List ℕ) → pieces b t ≡ [] → ⊥
+-- A text has a first piece.
+pub some-piece : (b : ℕ) (t : List ℕ) → pieces b t ≡ [] → ⊥
 some-piece b t e =
     let s = pieces-step b t in
     let z : _≡_ {A = ℕ} 0 1 = cc in

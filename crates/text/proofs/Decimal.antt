@@ -1,17 +1,18 @@
--- A number's own digits: reading them gives the number back.
+-- A number's own digits: reading them gives the number back, and a text that reads as a number is its digits.
 -- Assumes nothing.
 use Prim.Native.Nat.{ℕ, zero, suc, _+_, _-_, _*_, _/_, _%_, _^_, _≤_, _<_}
 use mathlib.Core.Path.{_≡_, refl, sym, _∙_, ap}
-use mathlib.Core.Bool.{Bool, true, false, cond}
+use mathlib.Core.Bool.{Bool, true, false, cond, _&&_, not}
 use mathlib.Core.List.{List, [], _∷_, _++_, append-assoc, append-nil}
 use mathlib.Core.Logic.{⊎-elim}
-use native.Mathlib.Nat.{zero-add, pow-suc, div-lt-iff-lt-mul, div-add-mod', mod-lt, le-div-iff-mul-le}
+use native.Mathlib.Nat.{zero-add, add-zero, pow-suc, pow-le-pow-right, div-lt-iff-lt-mul, div-add-mod', mod-lt, le-div-iff-mul-le}
 use native.Mathlib.Omega.{arith}
-use lib.Dec.{ltb, lit<}
+use lib.Dec.{leb, ltb, lit<}
 use lib.ListN.{length, getD, length-append, List·getD-append}
-use borrow.Author.Tests.{le-leb, lt-ltb, le-ltb, ltb-true, ne-eqb}
-use Rattle.laws.proofs.And.{and-false}
-use Rattle.laws.proofs.Order.{lt-or-le}
+use borrow.Author.Tests.{le-leb, leb-true, lt-ltb, le-ltb, ltb-true, ne-eqb, not-true}
+use Rattle.laws.proofs.And.{and-left, and-right, and-false}
+use Rattle.laws.proofs.Order.{lt-or-le, never-both}
+use Rattle.text.specs.declared.Numeral.the-variants.{Is, Malformed}
 use Rattle.text.specs.Numbers.{mostDigits, digitZero, digitNine, digitsFrom, leadingZero, numeralOf, decimalFrom, decimalOf}
 use Rattle.text.specs.Promises.{WrittenReadsBack}
 
@@ -102,3 +103,106 @@ written-reads-back n h =
       no-leading-zero n,
     )
     (ap (λ (l : List ℕ). digitsFrom l 0) (sym (append-nil (decimalFrom n n))) ∙ digits-read n n [] (below-power n))
+
+-- how far the digits are looked for does not matter, once it is far enough
+far-enough : (k j n : ℕ) → n ≤ k → n ≤ j → decimalFrom k n ≡ decimalFrom j n
+unfolding decimalFrom
+far-enough zero zero n h g = refl
+far-enough zero (suc j) n h g = rw (lt-ltb n 10 (omega arith))
+far-enough (suc k) zero n h g = rw (lt-ltb n 10 (omega arith))
+far-enough (suc k) (suc j) n h g = rw (far-enough k j (n / 10) (omega arith) (omega arith))
+
+-- A number below ten is one digit,
+pub one-digit : (n : ℕ) → n < 10 → decimalOf n ≡ (digitZero + n) ∷ []
+unfolding decimalOf decimalFrom
+one-digit zero h = refl
+one-digit (suc n) h = rw (lt-ltb (suc n) 10 h)
+
+-- and the last digit of any other is its rest by ten, behind the digits of its tenth.
+pub last-digit : (n : ℕ) → 10 ≤ n → decimalOf n ≡ decimalOf (n / 10) ++ ((digitZero + n % 10) ∷ [])
+unfolding decimalOf decimalFrom
+last-digit zero h = absurd (omega arith)
+last-digit (suc n) h = rw (le-ltb (suc n) 10 h, far-enough n (suc n / 10) (suc n / 10) (omega arith) (omega arith))
+
+-- a digit behind a number that is not 0 is its last
+digit-more : (v d : ℕ) → 1 ≤ v → d < 10 → decimalOf (v * 10 + d) ≡ decimalOf v ++ ((digitZero + d) ∷ [])
+digit-more v d h l =
+    let tenth : (v * 10 + d) / 10 ≡ v = omega arith in
+    let rest : (v * 10 + d) % 10 ≡ d = omega arith in
+    last-digit (v * 10 + d) (omega arith) ∙ rw (tenth, rest)
+
+-- bytes that make a number are digits, each of which is read in turn
+first-digit : (x : ℕ) (s : List ℕ) (v : ℕ) {n : ℕ} → digitsFrom (x ∷ s) v ≡ Is n
+    → (digitZero ≤ x) × (x ≤ digitNine) × (digitsFrom s (v * 10 + (x - digitZero)) ≡ Is n)
+unfolding digitsFrom
+first-digit x s v {n} e = at (leb digitZero x && leb x digitNine) refl e
+  where
+    at : (d : Bool) → (leb digitZero x && leb x digitNine) ≡ d → cond d (digitsFrom s (v * 10 + (x - digitZero))) Malformed ≡ Is n
+        → (digitZero ≤ x) × (x ≤ digitNine) × (digitsFrom s (v * 10 + (x - digitZero)) ≡ Is n)
+    at true d f = (
+      leb-true digitZero x (and-left (leb digitZero x) (leb x digitNine) d),
+      leb-true x digitNine (and-right (leb digitZero x) (leb x digitNine) d),
+      f,
+    )
+    at false d f = let z : _≡_ {A = ℕ} 0 1 = cc in absurd (omega arith)
+
+-- behind a number that is not 0 they are the last digits of the number that they make with it, which is as small as they are few
+digits-behind : (s : List ℕ) (v : ℕ) {n : ℕ} → 1 ≤ v → digitsFrom s v ≡ Is n → decimalOf n ≡ decimalOf v ++ s
+unfolding digitsFrom
+digits-behind [] v {n} h e = let same : v ≡ n = cc in sym (append-nil (decimalOf v) ∙ ap decimalOf same)
+digits-behind (x ∷ s) v {n} h e =
+    let f = first-digit x s v e in
+    let low = f .0 in
+    let high = f .1 in
+    let byte : digitZero + (x - digitZero) ≡ x = omega arith in
+    digits-behind s (v * 10 + (x - digitZero)) (omega arith) (f .2)
+    ∙ ap (λ (l : List ℕ). l ++ s) (digit-more v (x - digitZero) h (omega arith))
+    ∙ append-assoc (decimalOf v) ((digitZero + (x - digitZero)) ∷ []) s
+    ∙ ap (λ (y : ℕ). decimalOf v ++ (y ∷ s)) byte
+
+digits-below : (s : List ℕ) (v i : ℕ) {n : ℕ} → v < 10 ^ i → digitsFrom s v ≡ Is n → n < 10 ^ (i + length s)
+unfolding digitsFrom
+digits-below [] v i {n} h e = let same : v ≡ n = cc in rw (add-zero i, ← same) h
+digits-below (x ∷ s) v i h e =
+    let f = first-digit x s v e in
+    let high = f .1 in
+    let long : suc i + length s ≡ i + suc (length s) = omega arith in
+    rw long at (digits-below s (v * 10 + (x - digitZero)) (suc i) (rw (pow-suc 10 i) (omega arith)) (f .2))
+
+-- digits without a leading zero are those of the number that they make
+all-digits : (s : List ℕ) {n : ℕ} → 1 ≤ length s → leadingZero s ≡ false → digitsFrom s 0 ≡ Is n → decimalOf n ≡ s
+unfolding digitsFrom
+all-digits [] some led e = absurd (omega arith)
+all-digits (x ∷ []) {n} some led e =
+    let f = first-digit x [] 0 e in
+    let low = f .0 in
+    let high = f .1 in
+    let last = f .2 in
+    let same : 0 * 10 + (x - digitZero) ≡ n = cc in
+    let byte : digitZero + n ≡ x = omega arith in
+    one-digit n (omega arith) ∙ ap (λ (y : ℕ). y ∷ []) byte
+all-digits (x ∷ y ∷ s) some led e =
+    let f = first-digit x (y ∷ s) 0 e in
+    let low = f .0 in
+    let high = f .1 in
+    let lead : x ≡ digitZero → ⊥ = λ z. never-both (rw (z, lt-ltb 1 (suc (suc (length s))) (omega arith))) led in
+    let byte : digitZero + (0 * 10 + (x - digitZero)) ≡ x = omega arith in
+    digits-behind (y ∷ s) (0 * 10 + (x - digitZero)) (omega arith) (f .2)
+    ∙ rw (one-digit (0 * 10 + (x - digitZero)) (omega arith), byte)
+
+-- A text that reads as a number is the number's own digits, and the number has at most 14 of them.
+pub number-digits : (s : List ℕ) {n : ℕ} → numeralOf s ≡ Is n → (decimalOf n ≡ s) × (n < 10 ^ mostDigits)
+unfolding numeralOf
+number-digits s {n} e = at (leb 1 (length s) && leb (length s) mostDigits && not (leadingZero s)) refl e
+  where
+    at : (b : Bool) → (leb 1 (length s) && leb (length s) mostDigits && not (leadingZero s)) ≡ b → cond b (digitsFrom s 0) Malformed ≡ Is n
+        → (decimalOf n ≡ s) × (n < 10 ^ mostDigits)
+    at true b f =
+        let long = and-left (leb 1 (length s) && leb (length s) mostDigits) (not (leadingZero s)) b in
+        let led = not-true (leadingZero s) (and-right (leb 1 (length s) && leb (length s) mostDigits) (not (leadingZero s)) b) in
+        let some = leb-true 1 (length s) (and-left (leb 1 (length s)) (leb (length s) mostDigits) long) in
+        let few = leb-true (length s) mostDigits (and-right (leb 1 (length s)) (leb (length s) mostDigits) long) in
+        let below = digits-below s 0 0 (lit< tt) f in
+        let most = pow-le-pow-right {n = 10} (omega arith) {i = 0 + length s} {j = mostDigits} (omega arith) in
+        (all-digits s some led f, omega arith)
+    at false b f = let z : _≡_ {A = ℕ} 0 1 = cc in absurd (omega arith)

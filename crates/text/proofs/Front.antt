@@ -76,7 +76,7 @@ unfoldable pub allFree : ℕ → List (List ℕ) → Bool
 allFree b [] = true
 allFree b (w ∷ ws) = cond (free b w) (allFree b ws) false
 
-free-parts : (b x : ℕ) (w : List ℕ) → free b (x ∷ w) ≡ true → (eqb x b ≡ false) × (free b w ≡ true)
+pub free-parts : (b x : ℕ) (w : List ℕ) → free b (x ∷ w) ≡ true → (eqb x b ≡ false) × (free b w ≡ true)
 unfolding free
 free-parts b x w h = at (eqb x b) refl h
   where

@@ -7,3 +7,4 @@ pub mod Rows
 pub mod Reading
 pub mod Decimal
 pub mod Between
+pub mod Joining

@@ -1,4 +1,4 @@
--- A number's digits: the last is its rest by ten, and those before it are the digits of its tenth; how many there are, and how a part is filled with them.
+-- A number's digits: how many there are, and how a part is filled with them.
 -- Assumes nothing.
 use Prim.Native.Nat.{ℕ, zero, suc, _+_, _-_, _*_, _/_, _%_, _^_, _≤_, _<_}
 use mathlib.Core.Path.{_≡_, refl, sym, _∙_, ap}
@@ -10,29 +10,11 @@ use native.Mathlib.Omega.{arith}
 use lib.Dec.{lit<}
 use lib.ListN.{length, take, drop, set, length-append, length-set}
 use lib.Seq.{length-take-le, drop-length, set-split, drop-at}
-use borrow.Author.Tests.{lt-ltb, le-ltb}
 use Rattle.laws.proofs.Order.{lt-or-le}
-use Rattle.text.specs.Numbers.{digitZero, decimalFrom, decimalOf}
+use Rattle.text.specs.Numbers.{digitZero, decimalOf}
+use Rattle.text.proofs.Decimal.{one-digit, last-digit}
 use Rattle.writing.specs.Writing.{putLength, bufferOf}
 use Rattle.writing.proofs.Writing.{pasted-start, granted-length, granted-buffer}
-
--- how far the digits are looked for does not matter, once it is far enough
-far-enough : (k j n : ℕ) → n ≤ k → n ≤ j → decimalFrom k n ≡ decimalFrom j n
-unfolding decimalFrom
-far-enough zero zero n h g = refl
-far-enough zero (suc j) n h g = rw (lt-ltb n 10 (omega arith))
-far-enough (suc k) zero n h g = rw (lt-ltb n 10 (omega arith))
-far-enough (suc k) (suc j) n h g = rw (far-enough k j (n / 10) (omega arith) (omega arith))
-
-pub one-digit : (n : ℕ) → n < 10 → decimalOf n ≡ (digitZero + n) ∷ []
-unfolding decimalOf decimalFrom
-one-digit zero h = refl
-one-digit (suc n) h = rw (lt-ltb (suc n) 10 h)
-
-last-digit : (n : ℕ) → 10 ≤ n → decimalOf n ≡ decimalOf (n / 10) ++ ((digitZero + n % 10) ∷ [])
-unfolding decimalOf decimalFrom
-last-digit zero h = absurd (omega arith)
-last-digit (suc n) h = rw (le-ltb (suc n) 10 h, far-enough n (suc n / 10) (suc n / 10) (omega arith) (omega arith))
 
 -- one digit more than a tenth of the number has
 one-more : (n : ℕ) → 10 ≤ n → length (decimalOf n) ≡ length (decimalOf (n / 10)) + 1
