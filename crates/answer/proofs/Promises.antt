@@ -3,12 +3,10 @@
 use Prim.Native.Nat.{ℕ, _≤_, _<_}
 use mathlib.Core.Path.{_≡_, refl, sym, _∙_, ap}
 use mathlib.Core.List.{List, flatten}
-use native.Mathlib.Nat.{le-trans, zero-add}
+use native.Mathlib.Nat.{le-trans}
 use native.Mathlib.Omega.{arith}
-use lib.ListN.{length, drop, length-append, length-drop}
-use lib.Seq.{take-append-seam, drop-append-seam}
+use lib.ListN.{length}
 use mathlib.Core.Logic.{⊎-elim}
-use borrow.Author.Tests.{le-ltb}
 use Rattle.laws.proofs.Order.{lt-or-le}
 use Rattle.text.specs.Pieces.{joined, pieces}
 use Rattle.text.specs.Numbers.{decimalFrom, decimalOf}
@@ -17,10 +15,10 @@ use Rattle.refusal.specs.Refusal.{numberOf, granted}
 use Rattle.answer.specs.declared.Outcome.the-variants.{Granted, Refused, BadSheet}
 use Rattle.answer.specs.Lines.{answerText}
 use Rattle.writing.specs.Lines.{lineWith}
-use Rattle.writing.specs.Writing.{pasted, writtenOf, bufferOf, writtenGiven}
+use Rattle.writing.specs.Writing.{writtenOf, writtenGiven}
 use Rattle.answer.specs.Promises.{NeverLonger, LongestReached, RefusedShorter, OnlyTooShort, LongestSuffices, RefusedKeeps, GrantedHolds}
 use Rattle.answer.proofs.Texts.{granted-longest, refused-longest, sheet-text}
-use Rattle.writing.proofs.Writing.{refused-answer, refused-buffer, granted-answer}
+use Rattle.writing.proofs.Writing.{refused-answer, refused-buffer, granted-answer, buffer-holds}
 
 pub refused-shorter : RefusedShorter
 refused-shorter = refused-longest
@@ -60,7 +58,4 @@ pub refused-keeps : RefusedKeeps
 refused-keeps buf text h = sym (refused-buffer buf text h)
 
 pub granted-holds : GrantedHolds
-unfolding bufferOf pasted
-granted-holds buf text h =
-    rw (le-ltb (length buf) (length text) h, zero-add (length text))
-    (take-append-seam text (drop (length text) buf), drop-append-seam text (drop (length text) buf), length-append text (drop (length text) buf) ∙ rw (length-drop (length text) buf) (omega arith))
+granted-holds = buffer-holds

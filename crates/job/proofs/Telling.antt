@@ -5,10 +5,10 @@ use mathlib.Core.Bool.{Bool, true, false, cond, _&&_, not}
 use mathlib.Core.List.{List, [], _∷_, _++_}
 use mathlib.Core.Path.{_≡_, refl, sym, _∙_, ap, subst}
 use native.Mathlib.Omega.{arith}
-use lib.Dec.{leb}
+use lib.Dec.{leb, ltb}
 use lib.ListN.{length, getD, take-append-drop}
-use borrow.Author.Tests.{ne-eqb, leb-true}
-use Rattle.laws.proofs.And.{and-left, and-right}
+use borrow.Author.Tests.{ne-eqb}
+use Rattle.refusal.specs.declared.Refusal.the-variants.{MalformedText}
 use Rattle.text.specs.declared.Found.{Found}
 use Rattle.text.specs.declared.Found.the-variants.{At, Nothing}
 use Rattle.text.specs.declared.Numeral.{Numeral}
@@ -21,6 +21,7 @@ use Rattle.text.proofs.Parts.{part-tail, part-head}
 use Rattle.text.proofs.Alike.{same-so-equal}
 use Rattle.text.proofs.Splitting.{hasOf, pieces-step}
 use Rattle.text.proofs.Between.{after-none}
+use Rattle.text.proofs.Decimal.{first-digit}
 use Rattle.site.specs.declared.Site.{Site}
 use Rattle.site.specs.declared.AreaAnswer.{AreaAnswer}
 use Rattle.site.specs.declared.AreaAnswer.the-variants as area
@@ -28,10 +29,10 @@ use Rattle.site.specs.Judging.{afterJudging}
 use Rattle.job.specs.declared.Job.{Job}
 use Rattle.job.specs.declared.JobAnswer.{JobAnswer}
 use Rattle.job.specs.declared.JobAnswer.the-variants.{Granted, Refused}
-use Rattle.job.specs.Lines.{valueOf}
-use Rattle.job.specs.Head.{headFrom}
+use Rattle.job.specs.Lines.{linesOf, valueOf}
+use Rattle.job.specs.Head.{headFrom, headOf}
 use Rattle.job.specs.Areas.{subAreaFrom, areaIn, addedLine, refusedAt, endedAt, areasFrom}
-use Rattle.job.specs.Reading.{behindHead}
+use Rattle.job.specs.Reading.{mostBytes, behindHead, readingOf}
 
 -- an answer that is granted, to a text and to an add
 abbrev pub Grants : JobAnswer → Type 0
@@ -119,15 +120,9 @@ Digits [] = Unit {0}
 Digits (x ∷ s) = (digitZero ≤ x) × (x ≤ digitNine) × Digits s
 
 from-digits : (s : List ℕ) (v : ℕ) {n : ℕ} → digitsFrom s v ≡ Is n → Digits s
-unfolding digitsFrom Digits
+unfolding Digits
 from-digits [] v e = tt
-from-digits (x ∷ s) v {n} e = at (leb digitZero x && leb x digitNine) refl e (from-digits s (v * 10 + (x - digitZero)))
-  where
-    at : (d : Bool) → (leb digitZero x && leb x digitNine) ≡ d → cond d (digitsFrom s (v * 10 + (x - digitZero))) Malformed ≡ Is n
-        → (digitsFrom s (v * 10 + (x - digitZero)) ≡ Is n → Digits s) → (digitZero ≤ x) × (x ≤ digitNine) × Digits s
-    at true d f later =
-        (leb-true digitZero x (and-left (leb digitZero x) (leb x digitNine) d), leb-true x digitNine (and-right (leb digitZero x) (leb x digitNine) d), later f)
-    at false d f later = absurd (never-number f)
+from-digits (x ∷ s) v e = let f = first-digit x s v e in (f .0, f .1, from-digits s (v * 10 + (x - digitZero)) (f .2))
 
 pub numeral-digits : (s : List ℕ) {n : ℕ} → numeralOf s ≡ Is n → Digits s
 unfolding numeralOf
@@ -163,3 +158,13 @@ first-field P v p none = at (hasOf comma v) refl
     at : (h : Bool) → hasOf comma v ≡ h → pieces comma v ≡ beforeOf comma v ∷ pieces comma (afterOf comma v)
     at true h = pieces-step comma v ∙ rw h refl
     at false h = absurd (none (rw (after-none comma v h) at p))
+
+-- A text that reads is short enough, and its lines are read.
+pub lines-read : (text : List ℕ) → Grants (readingOf text .answer) → readingOf text ≡ behindHead (headOf (linesOf text)) (linesOf text)
+unfolding readingOf
+lines-read text = at (ltb mostBytes (length text))
+  where
+    at : (b : Bool) → Grants (cond b (refusedAt 0 MalformedText) (behindHead (headOf (linesOf text)) (linesOf text)) .answer)
+        → cond b (refusedAt 0 MalformedText) (behindHead (headOf (linesOf text)) (linesOf text)) ≡ behindHead (headOf (linesOf text)) (linesOf text)
+    at true g = absurd g
+    at false g = refl

@@ -2,7 +2,7 @@
 -- Assumes nothing.
 use Prim.Native.Nat.{ℕ, _+_, _^_, _≤_, _<_}
 use mathlib.Core.Bool.{Bool, true, false, cond, _&&_}
-use mathlib.Core.List.{List, [], _∷_, _++_, flatten, map, append-assoc, append-nil}
+use mathlib.Core.List.{List, [], _∷_, _++_, flatten, append-assoc, append-nil}
 use mathlib.Core.Path.{_≡_, refl, sym, _∙_, ap}
 use native.Mathlib.Omega.{arith}
 use borrow.Author.Tests.{le-leb, leb-true, eqb-true}
@@ -18,10 +18,9 @@ use Rattle.site.specs.declared.Site.{Site}
 use Rattle.site.specs.declared.Added.{Added}
 use Rattle.site.specs.declared.AreaAnswer.{AreaAnswer}
 use Rattle.site.specs.declared.AreaAnswer.the-variants as area
-use Rattle.site.specs.Soils.{suits}
 use Rattle.site.specs.Parts.{mostParts, partsOf, areaOf, totalArea}
 use Rattle.site.specs.Judging.{fits, given}
-use Rattle.site.specs.Adding.{added}
+use Rattle.site.specs.Adding.{stored, added}
 use Rattle.site.specs.Promises.{allFit}
 use Rattle.site.proofs.Promises.{given-granted, add-granted-exactly, granted-holds, stores}
 use Rattle.text.specs.Pieces.{lineFeed, pieces}
@@ -35,12 +34,11 @@ use Rattle.job.specs.Areas.{areaIn, addedLine, refusedAt, endedAt, areasFrom}
 use Rattle.job.proofs.Telling.{Grants, Adds, areas-read}
 use Rattle.job.proofs.Building.{Built, built-unspent, built-more}
 use Rattle.jobtext.specs.Text.{areaText}
+use Rattle.jobtext.specs.Records.{storedAll}
+use Rattle.jobtext.specs.Inner.{areasText}
+use Rattle.jobtext.proofs.Lengths.{fits-small}
 use Rattle.jobtext.proofs.Lines.{some-line}
 use Rattle.jobtext.proofs.AreaLines.{area-first, area-added, area-written}
-
--- the lines of some sub-areas
-abbrev pub areasText : List SubArea → List ℕ
-areasText ps = flatten (map areaText ps)
 
 -- Behind a line that adds a sub-area, with the add granted, the lines behind it are read on the site with the sub-area.
 reads-on : (job : Job) (line : List ℕ) (ls : List (List ℕ)) (k : ℕ) (s : Site) (p : SubArea) (more : Area) → 1 ≤ length ls
@@ -60,9 +58,9 @@ module _ (s : Site) (total : Area) (b : Built s total) (p : SubArea) (more : Are
 
 -- What is read of some lines that stand for sub-areas, behind those of a site: the job, and the site with these behind its own.
 pub record ReadAs (job : Job) (s : Site) (ps : List SubArea) (r : Reading) : Type 0 where
-  pub answer : r .answer ≡ Granted job
-  pub count : r .site .count ≡ s .count + length ps
-  pub parts : partsOf (r .site) ≡ partsOf s ++ ps
+  pub read : r ≡ record { answer = Granted job; site = storedAll s ps }
+  pub count : storedAll s ps .count ≡ s .count + length ps
+  pub parts : partsOf (storedAll s ps) ≡ partsOf s ++ ps
 
 -- some sub-areas that a site of a total area has room for
 pub record Room (s : Site) (total : Area) (ps : List SubArea) : Type 0 where
@@ -80,10 +78,7 @@ module _ (s : Site) (total : Area) (b : Built s total) (p : SubArea) (ps : List 
   first-fits = and-left (fits p) (allFit ps) (room .fit)
 
   first-short : areaOf p < 10 ^ mostDigits
-  first-short =
-      let tests = leb 1 (areaOf p) && leb (areaOf p) mostArea in
-      let most = leb-true (areaOf p) mostArea (and-right (leb 1 (areaOf p)) (leb (areaOf p) mostArea) (and-left tests (suits (p .cover) (p .soil)) first-fits)) in
-      omega arith
+  first-short = let most = fits-small p first-fits in omega arith
 
   first-added : added s p .answer ≡ area.Granted sum
   unfolding sumOf
@@ -109,25 +104,26 @@ module _ (s : Site) (total : Area) (b : Built s total) (p : SubArea) (ps : List 
 -- Sub-areas that are written are read behind a site that has room for them.
 pub areas-back : (job : Job) (ps : List SubArea) (k : ℕ) (s : Site) (total : Area) → Built s total → Room s total ps → 1 ≤ s .count + length ps
     → ReadAs job s ps (areasFrom job (linesOf (areasText ps)) k s)
-unfolding areasFrom flatten pieces
+unfolding areasFrom areasText flatten pieces storedAll
 areas-back job [] k s total b room some =
-    rw (le-leb 1 (s .count) (omega arith)) (record { answer = refl; count = omega arith; parts = sym (append-nil (partsOf s)) })
+    rw (le-leb 1 (s .count) (omega arith)) (record { read = refl; count = omega arith; parts = sym (append-nil (partsOf s)) })
 areas-back job (p ∷ ps) k s total b room some =
     let g = first-added s total b p ps room in
     let more = sum s total b p ps room in
     let count = count-more s total b p more g in
     let later = areas-back job ps (k + 1) (added s p .site) more (built-more s total b p more g) (room-left s total b p ps room) (omega arith) in
+    let put : added s p .site ≡ stored s p = ap (λ (a : Added). a .site) (stores s p more g) in
     let counted = later .count in
     rw (
       area-first p (areasText ps),
       reads-on job _ (linesOf (areasText ps)) k s p more (some-line (areasText ps)) (area-added p (areasText ps) s (first-short s total b p ps room)) g,
     )
     (record {
-      answer = later .answer;
-      count = omega arith;
+      read = later .read ∙ ap (λ (t : Site). record { answer = Granted job; site = storedAll t ps }) put;
+      count = rw put at counted ∙ omega arith;
       parts =
-          later .parts
-          ∙ ap (λ (qs : List SubArea). qs ++ ps) (parts-more s total b p more g)
+          (rw put at (later .parts))
+          ∙ ap (λ (qs : List SubArea). qs ++ ps) (rw put at (parts-more s total b p more g))
           ∙ append-assoc (partsOf s) (p ∷ []) ps;
     })
 
@@ -139,7 +135,7 @@ pub record AreasTold (job : Job) (s : Site) (ls : List (List ℕ)) (r : Reading)
   pub text : areasText (partsOf s) ++ together lineFeed ls ≡ areasText (partsOf (r .site))
 
 text-more : (ps : List SubArea) (p : SubArea) → areasText (ps ++ (p ∷ [])) ≡ areasText ps ++ areaText p
-unfolding flatten
+unfolding areasText flatten
 text-more [] p = append-nil (areaText p)
 text-more (q ∷ ps) p = ap (λ (t : List ℕ). areaText q ++ t) (text-more ps p) ∙ sym (append-assoc (areaText q) (areasText ps) (areaText p))
 

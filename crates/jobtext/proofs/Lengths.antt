@@ -113,7 +113,8 @@ area-digits n h =
     (lt-or-le n 100_000))
     (lt-or-le n 10_000)
 
-fits-small : (p : SubArea) → fits p ≡ true → areaOf p ≤ mostArea
+-- A sub-area that fits is at most 1,000,000.
+pub fits-small : (p : SubArea) → fits p ≡ true → areaOf p ≤ mostArea
 fits-small p f = leb-true (areaOf p) mostArea (and-right (leb 1 (areaOf p)) (leb (areaOf p) mostArea) (and-left (leb 1 (areaOf p) && leb (areaOf p) mostArea) (suits (p .cover) (p .soil)) f))
 
 -- So the lines of sub-areas that fit are held by how many they are and by their total area.

@@ -1,14 +1,14 @@
-pub mod Putting
 pub mod Rows
 pub mod Lengths
 pub mod Sizes
+pub mod Putting
 pub mod Pieces
 pub mod Writing
-pub mod Promises
-pub mod Numbers
 pub mod Words
 pub mod Lines
 pub mod AreaLines
 pub mod Heads
 pub mod Areas
 pub mod RoundTrip
+pub mod Promises
+pub mod Numbers

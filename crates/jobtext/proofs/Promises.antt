@@ -5,12 +5,10 @@ use mathlib.Core.Bool.{Bool, true, false, not}
 use mathlib.Core.List.{List, flatten}
 use mathlib.Core.Logic.{_⊎_, inl, inr, ⊎-elim}
 use mathlib.Core.Path.{_≡_, refl, sym, _∙_, ap}
-use native.Mathlib.Nat.{zero-add}
 use native.Mathlib.Omega.{arith}
 use borrow.Author.Tests.{lt-ltb, le-ltb}
 use lib.Dec.{lit<, lit≤}
-use lib.ListN.{length, take, drop, length-append, length-drop}
-use lib.Seq.{take-append-seam, drop-append-seam}
+use lib.ListN.{length, take, drop}
 use Rattle.laws.proofs.Order.{lt-or-le, never-both}
 use Rattle.refusal.specs.declared.Refusal.{Refusal}
 use Rattle.refusal.specs.declared.Refusal.the-variants.{MalformedText, BufferTooShort}
@@ -30,8 +28,8 @@ use Rattle.job.specs.declared.Job.{Job}
 use Rattle.writing.specs.declared.Written.{Written}
 use Rattle.writing.specs.declared.Written.the-variants.{Granted, Refused}
 use Rattle.writing.specs.Lines.{lineWith}
-use Rattle.writing.specs.Writing.{pasted, bufferOf, writtenGiven}
-use Rattle.writing.proofs.Writing.{granted-length}
+use Rattle.writing.specs.Writing.{bufferOf, writtenGiven}
+use Rattle.writing.proofs.Writing.{granted-length, buffer-holds}
 use Rattle.jobtext.specs.Text.{areaText, jobText, jobWritten, jobBuffer}
 use Rattle.jobtext.specs.Promises.{Writable, LongestReached, WriteTries, WriteOrder, RefusedKeeps, GrantedHolds, LongestSuffices}
 use Rattle.jobtext.specs.Records.{storedAll}
@@ -97,14 +95,6 @@ refused-keeps buf j s refuses = told (ending buf j s)
     told (short total f t h w b) = b
     told (put total f t h w b) = absurd (refuses (ap (λ (x : Written). writtenGiven x .0) w))
 
--- the text over the start of a buffer that has room for it
-over-the-start : (buf text : List ℕ) → length text ≤ length buf
-    → (take (length text) (bufferOf buf text) ≡ text) × (drop (length text) (bufferOf buf text) ≡ drop (length text) buf) × (length (bufferOf buf text) ≡ length buf)
-unfolding bufferOf pasted
-over-the-start buf text h =
-    rw (le-ltb (length buf) (length text) h, zero-add (length text))
-    (take-append-seam text (drop (length text) buf), drop-append-seam text (drop (length text) buf), length-append text (drop (length text) buf) ∙ rw (length-drop (length text) buf) (omega arith))
-
 pub granted-holds : GrantedHolds
 granted-holds buf j s n e = told (ending buf j s)
   where
@@ -123,7 +113,7 @@ granted-holds buf j s n e = told (ending buf j s)
     told (short total f t h w b) = absurd (never BufferTooShort w)
     told (put total f t h w b) =
         let long : n ≡ length text = ap (λ (g : ℕ × ℕ). g .1) (sym e ∙ ap writtenGiven w) in
-        rw (long, b) (over-the-start buf text h)
+        rw (long, b) (buffer-holds buf text h)
 
 -- A record is never refused 13.
 never-too-short : (s : Site) → givenArea (judged s) .0 ≡ numberOf BufferTooShort → ⊥

@@ -1,15 +1,12 @@
 -- Texts that are written and texts that read are the same: what is written reads back, and what reads is written back byte for byte.
 -- Assumes nothing.
 use Prim.Native.Nat.{ℕ, _+_, _≤_}
-use mathlib.Core.Bool.{Bool, true, false, cond}
 use mathlib.Core.List.{List, flatten}
 use mathlib.Core.Path.{_≡_, refl, sym, _∙_, ap}
 use native.Mathlib.Omega.{arith}
 use borrow.Author.Tests.{le-ltb}
-use lib.Dec.{ltb}
 use lib.ListN.{length, drop}
 use lib.Seq.{length-take-le}
-use Rattle.refusal.specs.declared.Refusal.the-variants.{MalformedText}
 use Rattle.refusal.specs.Refusal.{granted}
 use Rattle.refusal.proofs.Numbers.{refusal-not-granted}
 use Rattle.site.specs.declared.Site.{Site}
@@ -25,15 +22,15 @@ use Rattle.job.specs.declared.JobAnswer.{JobAnswer}
 use Rattle.job.specs.declared.JobAnswer.the-variants.{Granted, Refused}
 use Rattle.job.specs.declared.Reading.{Reading}
 use Rattle.job.specs.Lines.{linesOf}
-use Rattle.job.specs.Head.{headOf}
-use Rattle.job.specs.Areas.{refusedAt}
-use Rattle.job.specs.Reading.{mostBytes, headLines, behindHead, readingOf, given}
-use Rattle.job.proofs.Telling.{Grants}
+use Rattle.job.specs.Reading.{mostBytes, headLines, readingOf, given}
+use Rattle.job.proofs.Telling.{Grants, lines-read}
 use Rattle.job.proofs.Building.{built-none}
 use Rattle.jobtext.specs.Text.{jobText}
-use Rattle.jobtext.specs.Promises.{Writable, ReadsBack, WritesBack, WrittenTextsRead, NeverTooLong, OneText}
+use Rattle.jobtext.specs.Inner.{areasText}
+use Rattle.jobtext.specs.Promises.{Writable, ReadsBack, WritesBack, WrittenTextsRead, OneText}
+use Rattle.jobtext.proofs.Lengths.{never-too-long}
 use Rattle.jobtext.proofs.Heads.{head-read, head-told}
-use Rattle.jobtext.proofs.Areas.{areasText, ReadAs, areas-back, areas-told}
+use Rattle.jobtext.proofs.Areas.{ReadAs, areas-back, areas-told}
 
 -- What is written of a job and a record that are not refused reads as the job, and as a site with the record's sub-areas.
 module _ (j : Job) (s : Site) (w : Writable j s) where
@@ -45,7 +42,7 @@ module _ (j : Job) (s : Site) (w : Writable j s) where
       length-take-le (s .count) (s .parts) (omega arith)
 
   read-as : length (jobText j (partsOf s)) ≤ mostBytes → ReadAs j emptySite (partsOf s) (readingOf (jobText j (partsOf s)))
-  unfolding readingOf
+  unfolding readingOf areasText
   read-as short =
       let fine = given-some (judged s) (w .fine) in
       let has = judged-has s (fine .0) (fine .1) in
@@ -57,19 +54,9 @@ module _ (j : Job) (s : Site) (w : Writable j s) where
       rw (le-ltb mostBytes (length (jobText j (partsOf s))) short, head-read j (partsOf s) (w .practice) (w .rate) (w .amount))
       (areas-back j (partsOf s) (headLines + 1) emptySite (record { 0 = 0 }) built-none (record { fit = has .1; places = omega arith; within = omega arith }) (omega arith))
 
--- A text that reads is short enough, and its lines are read.
-lines-read : (text : List ℕ) → Grants (readingOf text .answer) → readingOf text ≡ behindHead (headOf (linesOf text)) (linesOf text)
-unfolding readingOf
-lines-read text = at (ltb mostBytes (length text))
-  where
-    at : (b : Bool) → Grants (cond b (refusedAt 0 MalformedText) (behindHead (headOf (linesOf text)) (linesOf text)) .answer)
-        → cond b (refusedAt 0 MalformedText) (behindHead (headOf (linesOf text)) (linesOf text)) ≡ behindHead (headOf (linesOf text)) (linesOf text)
-    at true g = absurd g
-    at false g = refl
-
 -- Head and areas tell its bytes.
 pub writes-back : WritesBack
-unfolding flatten
+unfolding areasText flatten
 writes-back text j s e =
     let g : Grants (readingOf text .answer) = rw e tt in
     let read = lines-read text g in
@@ -97,37 +84,34 @@ granted-job : (x : JobAnswer) → given x .0 ≡ granted → (j : Job) × (x ≡
 granted-job (Granted j) e = (j, refl)
 granted-job (Refused why k) e = absurd (refusal-not-granted why e)
 
--- The other promises, from the one that no text that is written is too long to be read.
-module _ (bounded : NeverTooLong) where
-  short : (j : Job) (s : Site) → Writable j s → length (jobText j (partsOf s)) ≤ mostBytes
-  short j s w =
-      let text = bounded .0 j s w in
-      let most = bounded .1 in
-      omega arith
+pub reads-back : ReadsBack
+reads-back j s w =
+    let text = never-too-long .0 j s w in
+    let most = never-too-long .1 in
+    let r = read-as j s w (omega arith) in
+    let count = r .count in
+    let long = parts-long j s w in
+    (r .read, omega arith, r .parts)
 
-  pub reads-back-by : ReadsBack
-  reads-back-by j s w =
-      let r = read-as j s w (short j s w) in
-      let count = r .count in
-      let long = parts-long j s w in
-      (r .answer, omega arith, r .parts)
+pub written-texts-read : WrittenTextsRead
+written-texts-read text = (only, there)
+  where
+    only : given (readingOf text .answer) .0 ≡ granted → (j : Job) × (s : Site) × Writable j s × (jobText j (partsOf s) ≡ text)
+    only e =
+        let j = granted-job (readingOf text .answer) e in
+        let back = writes-back text (j .0) (readingOf text .site) (λ i. record { answer = j .1 i; site = readingOf text .site }) in
+        (j .0, readingOf text .site, back .1, back .0)
 
-  pub written-texts-read-by : WrittenTextsRead
-  written-texts-read-by text = (only, there)
-    where
-      only : given (readingOf text .answer) .0 ≡ granted → (j : Job) × (s : Site) × Writable j s × (jobText j (partsOf s) ≡ text)
-      only e =
-          let j = granted-job (readingOf text .answer) e in
-          let back = writes-back text (j .0) (readingOf text .site) (λ i. record { answer = j .1 i; site = readingOf text .site }) in
-          (j .0, readingOf text .site, back .1, back .0)
+    there : (j : Job) × (s : Site) × Writable j s × (jobText j (partsOf s) ≡ text) → given (readingOf text .answer) .0 ≡ granted
+    there t =
+        ap (λ (u : List ℕ). given (readingOf u .answer) .0) (sym (t .3))
+        ∙ ap (λ (r : Reading). given (r .answer) .0) (reads-back (t .0) (t .1) (t .2) .0)
 
-      there : (j : Job) × (s : Site) × Writable j s × (jobText j (partsOf s) ≡ text) → given (readingOf text .answer) .0 ≡ granted
-      there t = ap (λ (u : List ℕ). given (readingOf u .answer) .0) (sym (t .3)) ∙ ap (λ (x : JobAnswer). given x .0) (reads-back-by (t .0) (t .1) (t .2) .0)
-
-  pub one-text-by : OneText
-  one-text-by j k s t v w e =
-      let one = reads-back-by j s v in
-      let other = reads-back-by k t w in
-      let answers = sym (one .0) ∙ ap (λ (u : List ℕ). readingOf u .answer) e ∙ other .0 in
-      let job : j ≡ k = cc in
-      (job, sym (one .2) ∙ ap (λ (u : List ℕ). partsOf (readingOf u .site)) e ∙ other .2)
+pub one-text : OneText
+one-text j k s t v w e =
+    let one = reads-back j s v in
+    let other = reads-back k t w in
+    let whole = sym (one .0) ∙ ap readingOf e ∙ other .0 in
+    let answers = ap (λ (r : Reading). r .answer) whole in
+    let job : j ≡ k = cc in
+    (job, sym (one .2) ∙ ap (λ (r : Reading). partsOf (r .site)) whole ∙ other .2)

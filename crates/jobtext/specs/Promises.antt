@@ -1,4 +1,5 @@
--- Rules, "Writing a job": what is promised of a written job, as statements that proofs/Promises.antt proves.
+-- Rules, "Writing a job": what is promised of a written job, as statements that proofs/Promises.antt, Lengths.antt and RoundTrip.antt
+-- prove.
 -- Assumes nothing.
 use Prim.Native.Nat.{ℕ, _≤_, _<_, _^_}
 use mathlib.Core.List.{List}
@@ -17,6 +18,7 @@ use Rattle.job.specs.declared.JobAnswer.the-variants.{Granted}
 use Rattle.job.specs.Reading.{mostBytes, readingOf, given}
 use Rattle.writing.specs.Writing.{writtenGiven}
 use Rattle.jobtext.specs.Text.{jobText, jobWritten, jobBuffer, longest}
+use Rattle.jobtext.specs.Records.{siteOf}
 
 -- A job and a record in memory that are not refused: the record is judged fine and holds a sub-area, the practice is one of the nine,
 -- and rate and amount have at most 14 digits.
@@ -28,15 +30,15 @@ pub record Writable (j : Job) (s : Site) : Type 0 where
   pub rate : j .rate .0 < 10 ^ mostDigits
   pub amount : j .amount < 10 ^ mostDigits
 
--- What was written reads back as the job, and as a site with the count and the sub-areas that it was written from. (Their numbers are
--- 1 to n there, and the counter is n + 1, as in every reading.)
+-- What was written reads back as the job, and as the record of the sub-areas, which has the count and the sub-areas that it was
+-- written from. (Their numbers are 1 to n there, the counter is n + 1, and past the count it holds what an empty site holds.)
 abbrev pub ReadsBack : Type 0
 ReadsBack =
     (j : Job) (s : Site)
     → Writable j s
-    → (readingOf (jobText j (partsOf s)) .answer ≡ Granted j)
-    × (readingOf (jobText j (partsOf s)) .site .count ≡ s .count)
-    × (partsOf (readingOf (jobText j (partsOf s)) .site) ≡ partsOf s)
+    → (readingOf (jobText j (partsOf s)) ≡ record { answer = Granted j; site = siteOf (partsOf s) })
+    × (siteOf (partsOf s) .count ≡ s .count)
+    × (partsOf (siteOf (partsOf s)) ≡ partsOf s)
 
 -- A text that reads without refusal is written back byte for byte, from the job and the site that it reads as; neither is refused.
 abbrev pub WritesBack : Type 0

@@ -33,7 +33,7 @@ use Rattle.job.specs.Areas.{subAreaFrom, subAreaOf, areaIn, addedLine, refusedA
 use Rattle.job.specs.Reading.{mostBytes, headLines, behindHead, readingOf}
 use Rattle.rewrite.specs.Rewriting.{cForU}
 use Rattle.rewrite.specs.Promises.{onC, siteOnC, SoilAlone}
-use Rattle.job.proofs.Telling.{Grants, Adds, head-reads, line-reads, areas-read}
+use Rattle.job.proofs.Telling.{Grants, Adds, head-reads, line-reads, areas-read, lines-read}
 use Rattle.rewrite.proofs.Texts.{pieces-changed}
 use Rattle.rewrite.proofs.Lines.{linesOnC, soil-on-c}
 use Rattle.rewrite.proofs.Heads.{head-said}
@@ -147,12 +147,7 @@ module _ (lines : List (List ℕ)) (g : Grants (behindHead (headOf lines) lines 
 
 -- The whole text: it has a head and areas that read,
 pub behind-reads : (text : List ℕ) → Grants (readingOf text .answer) → Grants (behindHead (headOf (linesOf text)) (linesOf text) .answer)
-unfolding readingOf
-behind-reads text = at (ltb mostBytes (length text))
-  where
-    at : (b : Bool) → Grants (cond b (refusedAt 0 MalformedText) (behindHead (headOf (linesOf text)) (linesOf text)) .answer) → Grants (behindHead (headOf (linesOf text)) (linesOf text) .answer)
-    at true g = absurd g
-    at false g = g
+behind-reads text g = rw (lines-read text g) at g
 
 -- and reads on C.
 pub text-on-c : (text : List ℕ) → Grants (readingOf text .answer) → readingOf (map cForU text) ≡ readingOnC (readingOf text)

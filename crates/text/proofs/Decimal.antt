@@ -26,8 +26,8 @@ digit-read n t v h =
 digit-first : (n : ℕ) (t : List ℕ) → n < 10 → digitsFrom ((digitZero + n) ∷ t) 0 ≡ digitsFrom t n
 digit-first n t h = digit-read n t 0 h ∙ ap (digitsFrom t) (zero-add n)
 
--- the rest of a number's digits is that of a number ten times smaller
-tenth-below : (n k : ℕ) → n < 10 ^ suc (suc k) → n / 10 < 10 ^ suc k
+-- The rest of a number's digits is that of a number ten times smaller
+pub tenth-below : (n k : ℕ) → n < 10 ^ suc (suc k) → n / 10 < 10 ^ suc k
 tenth-below n k h = div-lt-iff-lt-mul {k = 10} {x = n} {y = 10 ^ suc k} (omega arith) .1 (rw (pow-suc 10 (suc k)) at h)
 
 digits-read : (k n : ℕ) (t : List ℕ) → n < 10 ^ suc k → digitsFrom (decimalFrom k n ++ t) 0 ≡ digitsFrom t n
@@ -131,8 +131,8 @@ digit-more v d h l =
     let rest : (v * 10 + d) % 10 ≡ d = omega arith in
     last-digit (v * 10 + d) (omega arith) ∙ rw (tenth, rest)
 
--- bytes that make a number are digits, each of which is read in turn
-first-digit : (x : ℕ) (s : List ℕ) (v : ℕ) {n : ℕ} → digitsFrom (x ∷ s) v ≡ Is n
+-- Bytes that make a number are digits, each of which is read in turn.
+pub first-digit : (x : ℕ) (s : List ℕ) (v : ℕ) {n : ℕ} → digitsFrom (x ∷ s) v ≡ Is n
     → (digitZero ≤ x) × (x ≤ digitNine) × (digitsFrom s (v * 10 + (x - digitZero)) ≡ Is n)
 unfolding digitsFrom
 first-digit x s v {n} e = at (leb digitZero x && leb x digitNine) refl e

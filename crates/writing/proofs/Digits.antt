@@ -5,14 +5,14 @@ use mathlib.Core.Path.{_≡_, refl, sym, _∙_, ap}
 use mathlib.Core.List.{List, [], _∷_, _++_, append-assoc, append-nil}
 use mathlib.Core.Logic.{⊎-elim}
 use native.Mathlib.Numerals.{add-one}
-use native.Mathlib.Nat.{pow-suc, one-le-pow, div-lt-iff-lt-mul, le-div-iff-mul-le}
+use native.Mathlib.Nat.{pow-suc, one-le-pow, le-div-iff-mul-le}
 use native.Mathlib.Omega.{arith}
 use lib.Dec.{lit<}
 use lib.ListN.{length, take, drop, set, length-append, length-set}
 use lib.Seq.{length-take-le, drop-length, set-split, drop-at}
 use Rattle.laws.proofs.Order.{lt-or-le}
 use Rattle.text.specs.Numbers.{digitZero, decimalOf}
-use Rattle.text.proofs.Decimal.{one-digit, last-digit}
+use Rattle.text.proofs.Decimal.{tenth-below, one-digit, last-digit}
 use Rattle.writing.specs.Writing.{putLength, bufferOf}
 use Rattle.writing.proofs.Writing.{pasted-start, granted-length, granted-buffer}
 
@@ -23,9 +23,6 @@ one-more n h = rw (last-digit n h) (length-append (decimalOf (n / 10)) ((digitZe
 -- every number has a digit
 pub some-digit : (n : ℕ) → 1 ≤ length (decimalOf n)
 some-digit n = ⊎-elim (λ (l : n < 10). rw (one-digit n l) (omega arith)) (λ (m : 10 ≤ n). let e = one-more n m in omega arith) (lt-or-le n 10)
-
-tenth-below : (n k : ℕ) → n < 10 ^ suc (suc k) → n / 10 < 10 ^ suc k
-tenth-below n k h = div-lt-iff-lt-mul {k = 10} {x = n} {y = 10 ^ suc k} (omega arith) .1 (rw (pow-suc 10 (suc k)) at h)
 
 -- a number below 10 ^ suc j has at most suc j digits
 pub few-digits : (j n : ℕ) → n < 10 ^ suc j → length (decimalOf n) ≤ suc j

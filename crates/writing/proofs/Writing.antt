@@ -5,8 +5,9 @@ use mathlib.Core.Path.{_≡_, sym, _∙_}
 use mathlib.Core.Bool.{Bool, true, false}
 use mathlib.Core.List.{List, _++_}
 use native.Mathlib.Nat.{zero-add}
-use lib.ListN.{length, take, drop}
-use lib.Seq.{length-take-le}
+use native.Mathlib.Omega.{arith}
+use lib.ListN.{length, take, drop, length-append, length-drop}
+use lib.Seq.{length-take-le, take-append-seam, drop-append-seam}
 use borrow.Author.Tests.{lt-ltb, le-ltb, ltb-true, ltb-false}
 use Rattle.refusal.specs.declared.Refusal.the-variants.{BufferTooShort}
 use Rattle.writing.specs.declared.Written.the-variants.{Granted, Refused}
@@ -55,6 +56,14 @@ module _ (d t : List ℕ) where
     pub granted-buffer : pasted d 0 t ≡ bufferOf d t
     unfolding bufferOf
     granted-buffer = rw (le-ltb (length d) (length t) h)
+
+-- A text over the start of a buffer that has room for it stands there, and what stands behind it, and its length, are as they were.
+pub buffer-holds : (d t : List ℕ) → length t ≤ length d
+    → (take (length t) (bufferOf d t) ≡ t) × (drop (length t) (bufferOf d t) ≡ drop (length t) d) × (length (bufferOf d t) ≡ length d)
+unfolding bufferOf pasted
+buffer-holds d t h =
+    rw (le-ltb (length d) (length t) h, zero-add (length t))
+    (take-append-seam t (drop (length t) d), drop-append-seam t (drop (length t) d), length-append t (drop (length t) d) ∙ rw (length-drop (length t) d) (omega arith))
 
 -- a text of so many bytes, and a part of so many, the first of a buffer, that is filled with it
 module _ (d t : List ℕ) {size : ℕ} (e : size ≡ length t) where
