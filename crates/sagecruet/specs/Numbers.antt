@@ -16,6 +16,7 @@ use Rattle.probe.specs.Readings.{given as rateGiven}
 use Rattle.job.specs.declared.Span.{Span}
 use Rattle.writing.specs.declared.Written.{Written}
 use Rattle.writing.specs.Writing.{writtenGiven}
+use Rattle.sagecruet.specs.declared.JobWritten.{JobWritten}
 use Rattle.sagecruet.specs.declared.Part.{Part}
 use Rattle.sagecruet.specs.declared.Verdict.{Verdict}
 use Rattle.sagecruet.specs.declared.PercentAnswer.{PercentAnswer}
@@ -24,6 +25,10 @@ use Rattle.sagecruet.specs.declared.Value.{Value}
 -- the length of the answer text that was written: 0 for refusal 13
 abbrev pub ofWritten : Written → ℕ
 ofWritten w = writtenGiven w .1
+
+-- the number of a written job, and the length of its text
+abbrev pub ofJob : Written → JobWritten
+ofJob w = record { answer = writtenGiven w .0; len = writtenGiven w .1 }
 
 -- the place of a part's first byte, and its length
 abbrev pub ofSpan : Span → Part

@@ -8,20 +8,37 @@ ghost use Rattle.answer.specs.Lines.{answerText};
 ghost use Rattle.writing.specs.Writing.{writtenOf, bufferOf};
 ghost use Rattle.calculator.specs.Outcome.{byTables, byLent, outcomeOf};
 ghost use Rattle.rewrite.specs.Rewriting.{rewrittenOf};
-ghost use Rattle.sagecruet.specs.Numbers.{ofWritten, ofSpan, ofVerdict, ofPercent, ofRate, modeOf, readingIn};
+ghost use Rattle.sagecruet.specs.Codes.{told, codesWritten, codesBuffer};
+ghost use Rattle.sagecruet.specs.Numbers.{ofWritten, ofJob, ofSpan, ofVerdict, ofPercent, ofRate, modeOf, readingIn};
 use curve::Mode;
 use probe::RateAnswer;
 use probe::Reading;
 use refusal::Refusal;
+use site::Site;
 use units::Depth;
 use units::Rate;
 use writing::Written;
+
+mod codes;
 
 // A part of a job text: the place of its first byte, and its length.
 #[repr(C)]
 pub struct Part {
     pub from: usize,
     pub len: usize,
+}
+
+// A number given back, and the length of the job text that was written.
+#[repr(C)]
+pub struct JobWritten {
+    pub answer: u64,
+    pub len: usize,
+}
+
+// Sub-areas told by numbers: whether all codes have words, and then the record of the sub-areas.
+struct Coded {
+    worded: bool,
+    site: Site,
 }
 
 // What the test of a sheet says: 0, or 5 with the list and the place.
@@ -56,6 +73,21 @@ fn of_written(written: Written) -> usize
     match written {
         Written::Granted(length) => length,
         Written::Refused(_) => 0,
+    }
+}
+
+fn of_job(written: Written) -> JobWritten
+    ensures { λ r. ⌜ r ≡ ofJob written ⌝ }
+{
+    match written {
+        Written::Granted(length) => JobWritten {
+            answer: 0,
+            len: length,
+        },
+        Written::Refused(why) => JobWritten {
+            answer: refusal::number(why),
+            len: 0,
+        },
     }
 }
 
@@ -179,6 +211,24 @@ pub extern "C" fn sagecruet_rewrite(text: &mut [u8])
     ensures { λ _. ⌜ now (text .exit) ≡ rewrittenOf (now (text .entry)) ⌝ }
 {
     rewrite::rewrite(text)
+}
+
+// A job text, written from numbers.
+#[no_mangle]
+pub extern "C" fn sagecruet_job(
+    practice: u64,
+    nutrient: u64,
+    mode: u64,
+    rate: u64,
+    task: u64,
+    amount: u64,
+    areas: &[u64],
+    text: &mut [u8],
+) -> JobWritten
+    ensures { λ r. ⌜ r ≡ ofJob (codesWritten (now (text .entry)) (told practice nutrient mode rate task amount (now (areas .entry)))) ⌝ }
+    ensures { λ _. ⌜ now (text .exit) ≡ codesBuffer (now (text .entry)) (told practice nutrient mode rate task amount (now (areas .entry))) ⌝ }
+{
+    of_job(codes::write(practice, nutrient, mode, rate, task, amount, areas, text))
 }
 
 // The test of a sheet.
