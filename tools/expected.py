@@ -3,9 +3,9 @@
 
     tools/expected.py DOCUMENT > crates/vectors/stdout
 
-The program prints lines of a word and whole numbers, with single spaces between them. Numbers stand for things as the
-rules number them: practices 0 to 8; nutrients P 0, N 1; modes step 0, mix 1; land uses com, ind, hdr, mdr, ldr, hwy,
-for, open, ag 0 to 8; soils A, B, C, CD, D, U 0 to 5, and 6 for impervious cover; soil columns A, B, C, CD, D 0 to 4.
+The program prints lines of a word and whole numbers, with single spaces between them, and job texts. Numbers stand for
+things as the rules number them: practices 0 to 8; nutrients P 0, N 1; modes step 0, mix 1; land uses com, ind, hdr, mdr,
+ldr, hwy, for, open, ag 0 to 8; soils A, B, C, CD, D, U 0 to 5, and 6 for impervious cover; soil columns A, B, C, CD, D 0 to 4.
 ANSWER is the number given back, 0 on every line but that of the sheet and some of the run; the values beside a refusal are
 zeros. BASIS is how the percent before it was found: printed 1, between 2, start 3, held 4 (none 0 would stand beside a
 refusal). In this order:
@@ -48,6 +48,11 @@ refusal). In this order:
         depth in turn, rates and depths in the tables' order: the percent of the published sheet there; then the answer
         of crediting the volume V(DEPTH) on a site of one commercial impervious acre (area 100); then the answer of
         sizing on that site with the printed percent for the target
+
+    written ANSWER LENGTH
+        the writing of a job, and behind this line the text itself, as it was written: LENGTH bytes, whose last is a line feed.
+        JOBS has the nine jobs, the practices 0 to 8 and the land uses 0 to 8 in turn. The site of each has seven sub-areas of its
+        land use, pervious on the soils 0 to 5 in turn and then impervious; AREAS has their areas, which come to 1,000,000
 """
 
 import struct
@@ -89,6 +94,20 @@ RUN = (
     ("counter", 2_000_000), ("remove", 1), ("count", 32), ("remove", 2), ("count", 33), ("add", 0), ("count", 30),
     ("counter", 0), ("add", 1), ("counter", 32), ("remove", 2), ("counter", 33), ("remove", 2), ("add", 1_000_001),
 )
+
+# the jobs that are written, each with the land use of its sub-areas, and their areas
+JOBS = (
+    ("trench", "P", "step", 0, "load", 0, "com"),
+    ("basin", "N", "step", 9, "credit", 10, "ind"),
+    ("biofilter", "P", "mix", 17, "size", 999, "hdr"),
+    ("wetland", "N", "mix", 102, "load", 5678, "mdr"),
+    ("isr", "P", "step", 8270, "credit", 335_847_600, "ldr"),
+    ("sand", "N", "step", 10_000, "size", 70_000, "hwy"),
+    ("wetpond", "P", "mix", 123_456, "load", 1_100_343_750, "for"),
+    ("drypond", "N", "mix", 99_999_999_999_999, "credit", 10_000_000_000_000, "open"),
+    ("swale", "P", "step", 10_203_040_506_070, "size", 99_999_999_999_999, "ag"),
+)
+AREAS = (1, 20, 300, 4_000, 50_000, 600_000, 345_679)
 
 
 def load_column(soil):
@@ -252,6 +271,21 @@ def run_of_steps():
         yield "run", answer, total, site.count, site.counter, *site.numbers[:site.count]
 
 
+def job_text(practice, nutrient, mode, rate, task, amount, parts):
+    """The text of a job with its sub-areas (land use, cover, soil, area)."""
+    head = ("practice", practice), ("nutrient", nutrient), ("mode", mode), ("rate", rate), ("task", task), ("amount", amount)
+    return "".join(f"{key}={value}\n" for key, value in head) + "".join("area={},{},{},{}\n".format(*part) for part in parts)
+
+
+def written_jobs():
+    for *head, use in JOBS:
+        grounds = [("per", soil) for soil in SOILS] + [("imp", NO_SOIL)]
+        text = job_text(*head, [(use, *ground, area) for ground, area in zip(grounds, AREAS)])
+        yield "written", 0, len(text)
+        for line in text.splitlines():
+            yield (line,)
+
+
 def first_break(depths, rates, percents):
     """The test of a sheet whose lengths are right: (0, 0, 0), or 5 with the list and the place."""
     for number, values, most in ((1, depths, 200), (2, [] if rates == [0] else rates, 10_000)):
@@ -331,6 +365,7 @@ def output(document):
                             0, reached, credit, basis(sheet, mode, rate, reached), load * credit // FULL,
                             0, least, sized, basis(sheet, mode, rate, least), volume(rows, acre, least), load * sized // FULL,
                         )
+    yield from written_jobs()
 
 
 if __name__ == "__main__":

@@ -1,8 +1,8 @@
-//! Inputs made from a seed: job texts, sheets and readings, valid and damaged, short and long.
+//! Inputs made from a seed: job texts, jobs as values, sheets and readings, valid and damaged, short and long.
 
 use crate::random::Random;
 use crate::tables::PUBLISHED;
-use crate::Sheet;
+use crate::{Head, Sheet};
 
 pub const PRACTICES: [&str; 9] =
     ["trench", "basin", "biofilter", "wetland", "isr", "sand", "wetpond", "drypond", "swale"];
@@ -19,6 +19,12 @@ const KEYS: [&str; 7] = ["practice=", "nutrient=", "mode=", "rate=", "task=", "a
 const ODD_NUMBERS: [&str; 20] = [
     "", "0", "00", "1", "01", "10000", "10001", "100000", "100001", "999999", "1000000", "1000001", "9999999999999",
     "10000000000000", "10000000000001", "99999999999999", "100000000000000", "18446744073709551616", "-1", "1e3",
+];
+
+/// Codes with and without a word, and numbers at and about the limits; some are another one where only their low bits are seen.
+#[rustfmt::skip]
+const ODD_VALUES: [u64; 18] = [
+    0, 1, 2, 3, 6, 7, 8, 9, 10, 256, 65_536, 1 << 32, 1_000_000, 1_000_001, MOST_NUMBER, MOST_NUMBER + 1, 1 << 63, u64::MAX,
 ];
 
 fn digits(random: &mut Random) -> String {
@@ -105,6 +111,66 @@ fn job_on(random: &mut Random, practice: usize, nutrient: usize, sheet: Sheet, r
         text += &sub_area(random, area, paved);
     }
     text.into_bytes()
+}
+
+/// The values of one of the longest job texts, with 32 sub-areas open,per,CD.
+pub fn longest() -> (Head, Vec<u64>) {
+    let head = Head { practice: 2, nutrient: 0, mode: 0, rate: MOST_NUMBER, task: 1, amount: MOST_NUMBER };
+    (head, [[7, 1, 3, 100_000].repeat(7), [7, 1, 3, 10_000].repeat(25)].concat())
+}
+
+/// A number that a job can say: of 1 to 14 digits, now and then the least or the largest with so many.
+fn number(random: &mut Random) -> u64 {
+    let end = 10u64.pow(random.within(1, 14) as u32);
+    match random.below(6) {
+        0 => end / 10,
+        1 => end - 1,
+        _ => random.below(end),
+    }
+}
+
+/// A job as values, most often one that has a text: its head, and four numbers for each sub-area.
+pub fn values(random: &mut Random) -> (Head, Vec<u64>) {
+    if random.one_in(40) {
+        return longest();
+    }
+    let head = Head {
+        practice: random.below(9),
+        nutrient: random.below(2),
+        mode: random.below(2),
+        rate: number(random),
+        task: random.below(3),
+        amount: number(random),
+    };
+    let mut parts = Vec::new();
+    for area in areas(random) {
+        let (cover, soil) = if random.one_in(2) { (0, 6) } else { (1, random.below(6)) };
+        parts.extend([random.below(9), cover, soil, area]);
+    }
+    (head, parts)
+}
+
+/// Harm to a job as values: numbers changed, the list of sub-areas cut off, doubled or lengthened by a number.
+pub fn damaged_values(random: &mut Random) -> (Head, Vec<u64>) {
+    let (mut head, mut parts) = values(random);
+    for _ in 0..random.within(1, 3) {
+        let odd = random.pick(&ODD_VALUES);
+        let place = random.below(parts.len() as u64 + 1) as usize;
+        match random.below(14) {
+            0 => head.practice = odd,
+            1 => head.nutrient = odd,
+            2 => head.mode = odd,
+            3 => head.rate = odd,
+            4 => head.task = odd,
+            5 => head.amount = odd,
+            6 => parts.truncate(place),
+            7 => parts.truncate(place % 4 * 4),
+            8 => parts.extend_from_slice(&parts.clone()),
+            _ if place < parts.len() => parts[place] = odd,
+            _ => parts.push(odd),
+        }
+    }
+    (head, parts)
 }
 
 /// Harm to a job text: bytes, lines, fields or numbers changed, put in, taken out, cut off or put at the end.
@@ -359,7 +425,7 @@ pub fn reading(random: &mut Random) -> f32 {
 #[cfg(test)]
 mod tests {
     use super::*;
-    use crate::{reference, Basis, ROOM};
+    use crate::{reference, Basis, JOB_ROOM, ROOM};
 
     const COUNT: u64 = 20_000;
 
@@ -434,5 +500,43 @@ mod tests {
             kept += damaged.contains(&b'U') as u64;
         }
         assert!(otherwise >= COUNT / 20 && kept >= COUNT / 5, "{} {}", otherwise, kept);
+    }
+
+    /// Each number that the writing of a job can give back for its values is met by at least one in fifty, and most of the texts
+    /// that are written are not of the same length. Each reads back as what it was written from.
+    #[test]
+    fn values_meet_each_refusal() {
+        let mut random = Random::from(8);
+        let (mut seen, mut lengths) = ([0; 15], [0; JOB_ROOM + 1]);
+        for n in 0..COUNT {
+            let (head, areas) = if n % 2 == 0 { values(&mut random) } else { damaged_values(&mut random) };
+            let mut text = [0; JOB_ROOM];
+            let written = reference::write(&head, &areas, &mut text);
+            seen[written.answer as usize] += 1;
+            lengths[written.len] += 1;
+            if written.answer == 0 {
+                assert_eq!(reference::values(&text[..written.len]), Some((head, areas)));
+            }
+        }
+        assert!([0, 1, 2, 3, 14].iter().all(|&answer| seen[answer] >= COUNT / 50), "{:?}", seen);
+        assert_eq!(seen.iter().filter(|&&count| count > 0).count(), 5, "{:?}", seen);
+        assert!(lengths[JOB_ROOM] > 0 && lengths.iter().filter(|&&count| count > 0).count() > 400);
+    }
+
+    /// At least half of the job texts read, and each that does is written back as it was.
+    #[test]
+    fn texts_that_read_are_written_back() {
+        let mut random = Random::from(8);
+        let mut read = 0;
+        for n in 0..COUNT {
+            let job = if n % 4 == 0 { damaged(&mut random) } else { job(&mut random) };
+            if let Some((head, areas)) = reference::values(&job) {
+                let mut text = [0; JOB_ROOM];
+                let written = reference::write(&head, &areas, &mut text);
+                assert_eq!((written.answer, &text[..written.len]), (0, &job[..]));
+                read += 1;
+            }
+        }
+        assert!(read >= COUNT / 2, "{}", read);
     }
 }

@@ -13,12 +13,28 @@ pub mod tables;
 /// 20 digits each.
 pub const ROOM: usize = 161;
 
+/// Room for any job text: its head takes at most 94 bytes, each of 32 area lines at most 18 and its digits, of which areas that
+/// come to at most 1,000,000 have at most 167.
+pub const JOB_ROOM: usize = 837;
+
 /// A curve sheet: depths, rates, and percents rate by rate.
 #[derive(Clone, Copy, Debug)]
 pub struct Sheet<'a> {
     pub depths: &'a [u64],
     pub rates: &'a [u64],
     pub percents: &'a [u64],
+}
+
+/// A job but for its sub-areas: its rate and amount, and the codes of its words, which are places in the rules' lists, counted
+/// from 0. A sub-area is four numbers beside it: the codes of its land use, cover and soil, and its area.
+#[derive(Clone, Copy, Debug, PartialEq, Eq)]
+pub struct Head {
+    pub practice: u64,
+    pub nutrient: u64,
+    pub mode: u64,
+    pub rate: u64,
+    pub task: u64,
+    pub amount: u64,
 }
 
 /// The offending part of a job text: where it starts, and its length.
@@ -53,6 +69,24 @@ impl Value {
 
     pub fn refused(answer: u64) -> Value {
         Value { answer, value: 0 }
+    }
+}
+
+/// What the writing of a job answers: the number given back, and the length of the text, which is 0 beside a refusal.
+#[repr(C)]
+#[derive(Clone, Copy, Debug, PartialEq, Eq)]
+pub struct Written {
+    pub answer: u64,
+    pub len: usize,
+}
+
+impl Written {
+    pub fn granted(len: usize) -> Written {
+        Written { answer: 0, len }
+    }
+
+    pub fn refused(answer: u64) -> Written {
+        Written { answer, len: 0 }
     }
 }
 
@@ -114,7 +148,7 @@ impl PercentAnswer {
     }
 }
 
-/// The seven calls of the C interface, as either side gives them.
+/// The eight calls of the C interface, as either side gives them.
 pub struct Calls {
     pub name: &'static str,
     /// The answer text of a job, on the published tables: its length, or 0 where the buffer is too short.
@@ -129,4 +163,6 @@ pub struct Calls {
     pub reading: fn(bool, f32) -> Value,
     /// A job text rewritten where it stands, with C for an unknown soil.
     pub rewrite: fn(&mut [u8]),
+    /// The text of a job, from its head and its sub-areas.
+    pub write: fn(&Head, &[u64], &mut [u8]) -> Written,
 }

@@ -1,12 +1,12 @@
 //! The proved library, through its C interface.
 
-use crate::{Calls, Part, PercentAnswer, Sheet, Value, Verdict};
+use crate::{Calls, Head, Part, PercentAnswer, Sheet, Value, Verdict, Written};
 
 pub const CALLS: Calls =
-    Calls { name: "the proved library", answer, answer_on, fault, sheet, percent, reading, rewrite };
+    Calls { name: "the proved library", answer, answer_on, fault, sheet, percent, reading, rewrite, write };
 
 mod c {
-    use crate::{Part, PercentAnswer, Value, Verdict};
+    use crate::{Part, PercentAnswer, Value, Verdict, Written};
 
     extern "C" {
         pub fn sagecruet_answer(job: *const u8, job_len: usize, text: *mut u8, text_len: usize) -> usize;
@@ -44,6 +44,18 @@ mod c {
         ) -> PercentAnswer;
         pub fn sagecruet_reading(millimetres: bool, reading: f32) -> Value;
         pub fn sagecruet_rewrite(job: *mut u8, job_len: usize);
+        pub fn sagecruet_job(
+            practice: u64,
+            nutrient: u64,
+            mode: u64,
+            rate: u64,
+            task: u64,
+            amount: u64,
+            areas: *const u64,
+            areas_len: usize,
+            text: *mut u8,
+            text_len: usize,
+        ) -> Written;
     }
 }
 
@@ -112,4 +124,22 @@ pub fn reading(millimetres: bool, reading: f32) -> Value {
 
 pub fn rewrite(job: &mut [u8]) {
     unsafe { c::sagecruet_rewrite(job.as_mut_ptr(), job.len()) }
+}
+
+pub fn write(head: &Head, areas: &[u64], text: &mut [u8]) -> Written {
+    let Head { practice, nutrient, mode, rate, task, amount } = *head;
+    unsafe {
+        c::sagecruet_job(
+            practice,
+            nutrient,
+            mode,
+            rate,
+            task,
+            amount,
+            areas.as_ptr(),
+            areas.len(),
+            text.as_mut_ptr(),
+            text.len(),
+        )
+    }
 }

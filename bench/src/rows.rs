@@ -1,10 +1,10 @@
-//! The rows of the vectors: jobs.jsonl, sheets.jsonl, readings.jsonl and, where a folder has it, rewrites.jsonl, one record a
-//! line.
+//! The rows of the vectors: those of jobs.jsonl, sheets.jsonl, readings.jsonl, rewrites.jsonl and writes.jsonl that a folder has,
+//! one record a line.
 
 use std::fs;
 use std::path::Path;
 
-use crate::{Basis, Calls, Part, PercentAnswer, Sheet, Value, Verdict};
+use crate::{Basis, Calls, Head, Part, PercentAnswer, Sheet, Value, Verdict, Written};
 
 /// As much of JSON as the rows have.
 enum Json {
@@ -147,8 +147,19 @@ pub struct Tally {
     pub rows: usize,
 }
 
-fn tally(kind: &'static str, folder: &Path, calls: &Calls, holds: fn(&Calls, &Json) -> bool) -> Tally {
-    let rows = rows(&folder.join(kind).with_extension("jsonl"));
+/// Whether one side holds a row.
+type Holds = fn(&Calls, &Json) -> bool;
+
+const KINDS: [(&str, Holds); 5] = [
+    ("jobs", job_holds),
+    ("sheets", sheet_holds),
+    ("readings", reading_holds),
+    ("rewrites", rewrite_holds),
+    ("writes", write_holds),
+];
+
+fn tally(kind: &'static str, path: &Path, calls: &Calls, holds: Holds) -> Tally {
+    let rows = rows(path);
     let mut held = 0;
     for (number, row) in rows.iter().enumerate() {
         if holds(calls, row) {
@@ -162,14 +173,14 @@ fn tally(kind: &'static str, folder: &Path, calls: &Calls, holds: fn(&Calls, &Js
 
 /// Runs every row of a folder on one side.
 pub fn run(folder: &Path, calls: &Calls) -> Vec<Tally> {
-    let mut tallies = vec![
-        tally("jobs", folder, calls, job_holds),
-        tally("sheets", folder, calls, sheet_holds),
-        tally("readings", folder, calls, reading_holds),
-    ];
-    if folder.join("rewrites.jsonl").exists() {
-        tallies.push(tally("rewrites", folder, calls, rewrite_holds));
+    let mut tallies = Vec::new();
+    for (kind, holds) in KINDS {
+        let path = folder.join(kind).with_extension("jsonl");
+        if path.exists() {
+            tallies.push(tally(kind, &path, calls, holds));
+        }
     }
+    assert!(!tallies.is_empty(), "{}: no file of rows", folder.display());
     tallies
 }
 
@@ -223,4 +234,15 @@ fn rewrite_holds(calls: &Calls, row: &Json) -> bool {
     let mut job = bytes_of_hex(row.text("job"));
     (calls.rewrite)(&mut job);
     job == bytes_of_hex(row.text("rewritten")) && answers(calls, &job, row.text("answer").as_bytes())
+}
+
+/// A job's writing into a buffer of some room.
+fn write_holds(calls: &Calls, row: &Json) -> bool {
+    let (job, areas, text) = (row.numbers("job"), row.numbers("areas"), bytes_of_hex(row.text("text")));
+    let head = Head { practice: job[0], nutrient: job[1], mode: job[2], rate: job[3], task: job[4], amount: job[5] };
+    let mut buffer = vec![b'#'; row.number("room") as usize];
+    let mut expected = buffer.clone();
+    expected[..text.len()].copy_from_slice(&text);
+    let written = Written { answer: row.number("answer"), len: text.len() };
+    (calls.write)(&head, &areas, &mut buffer) == written && buffer == expected
 }

@@ -11,7 +11,7 @@ fn main() -> ExitCode {
     let folder = match std::env::args().nth(1) {
         Some(folder) => folder,
         None => {
-            eprintln!("baseline FOLDER: the folder of jobs.jsonl, sheets.jsonl, readings.jsonl (and rewrites.jsonl)");
+            eprintln!("baseline FOLDER: a folder of jobs, sheets, readings, rewrites or writes, each a file .jsonl");
             return ExitCode::FAILURE;
         }
     };

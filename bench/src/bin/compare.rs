@@ -4,26 +4,37 @@
 //!
 //! Every byte of what is lent is compared: the answer's buffer, with the bytes after the text and about the buffer; the job
 //! and the sheet, which no answer may change; and the buffer of a rewritten job, with the bytes about it. Our answer to a
-//! rewritten job is compared with the one that the old rules gave to the job. The exit status is 1 where anything differs.
+//! rewritten job is compared with the one that the old rules gave to the job. The values of a job text that reads are written
+//! back by both sides. Besides, a quarter as many jobs are made as values and written, and what was written is read back. The
+//! exit status is 1 where anything differs.
 
 use std::path::Path;
 use std::process::ExitCode;
 
 use bench::generate::{self, OwnSheet};
 use bench::random::Random;
-use bench::{linked, reference, rows, Basis, Sheet};
+use bench::{linked, reference, rows, Basis, Calls, Head, Sheet, Written, JOB_ROOM, ROOM};
 
 /// Bytes that stand on each side of a lent buffer, in the same allocation.
 const MARGIN: usize = 24;
 
+/// How many inputs were compared, and how many of them differed.
 #[derive(Default)]
-struct Seen {
+struct Count {
     compared: u64,
     differed: u64,
-    /// How often each number was given back by a job, by a sheet's percent and by a reading.
+}
+
+#[derive(Default)]
+struct Seen {
+    /// Job texts, sheets and readings; and jobs as values.
+    inputs: Count,
+    values: Count,
+    /// How often each number was given back by a job, by a sheet's percent, by a reading and by the writing of a job.
     jobs: [u64; 18],
     percents: [u64; 18],
     readings: [u64; 18],
+    writes: [u64; 18],
     /// How often each basis stood in the text of a granted job and beside a granted percent, and each list beside
     /// refusal 5 of a percent.
     job_bases: [u64; 5],
@@ -36,9 +47,12 @@ struct Seen {
     rewritten: u64,
     answered_otherwise: u64,
     left: u64,
+    /// How many job texts read and were written back from their values, and how many written texts read back.
+    written_back: u64,
+    read_back: u64,
 }
 
-impl Seen {
+impl Count {
     fn note(&mut self, same: bool, what: impl FnOnce() -> String) {
         self.compared += 1;
         if !same {
@@ -106,6 +120,27 @@ fn rewriting_differs(seen: &mut Seen, job: &[u8], sheet: Option<Sheet>, text: &[
     })
 }
 
+/// What differs where a job text that reads is written back from its values, if anything does.
+fn writing_back_differs(seen: &mut Seen, job: &[u8]) -> Option<String> {
+    let (head, areas) = reference::values(job)?;
+    seen.written_back += 1;
+    let expected = (Written::granted(job.len()), [job, &[b'#'; MARGIN]].concat());
+    let written = |calls: &Calls| {
+        let mut buffer = vec![b'#'; job.len() + MARGIN];
+        ((calls.write)(&head, &areas, &mut buffer), buffer)
+    };
+    let (ours, theirs) = (written(&linked::CALLS), written(&reference::CALLS));
+    (ours != expected || theirs != expected).then(|| {
+        format!(
+            "; written back {:?} \"{}\", and by the Rust code {:?} \"{}\"",
+            ours.0,
+            shown(&ours.1),
+            theirs.0,
+            shown(&theirs.1)
+        )
+    })
+}
+
 fn compare_job(seen: &mut Seen, random: &mut Random, job: Vec<u8>, lent: Option<&OwnSheet>) {
     let sheet = lent.map(OwnSheet::lend);
     let (copy, sheet_copy) = (job.clone(), lent.cloned());
@@ -117,6 +152,7 @@ fn compare_job(seen: &mut Seen, random: &mut Random, job: Vec<u8>, lent: Option<
     }
     seen.longest = seen.longest.max(job.len());
     let rewriting = rewriting_differs(seen, &job, sheet, &whole[..length]);
+    let writing = writing_back_differs(seen, &job);
     let room = match random.below(6) {
         0 => random.below(length as u64 + 1) as usize,
         1 => length,
@@ -131,10 +167,10 @@ fn compare_job(seen: &mut Seen, random: &mut Random, job: Vec<u8>, lent: Option<
     seen.too_short += (their_length == 0) as u64;
     let (our_part, their_part) = (linked::fault(&job), reference::fault(&job));
     let kept = job == copy && lent == sheet_copy.as_ref();
-    let same = our_length == their_length && ours == theirs && our_part == their_part && rewriting.is_none();
-    seen.note(same && kept, || {
+    let same = our_length == their_length && ours == theirs && our_part == their_part;
+    seen.inputs.note(same && kept && rewriting.is_none() && writing.is_none(), || {
         format!(
-            "job \"{}\" with {:?} and room {}: {} \"{}\" {:?}, and the Rust code {} \"{}\" {:?}{}",
+            "job \"{}\" with {:?} and room {}: {} \"{}\" {:?}, and the Rust code {} \"{}\" {:?}{}{}",
             shown(&copy),
             sheet_copy,
             room,
@@ -144,7 +180,8 @@ fn compare_job(seen: &mut Seen, random: &mut Random, job: Vec<u8>, lent: Option<
             their_length,
             shown(&theirs[MARGIN..MARGIN + their_length]),
             their_part,
-            rewriting.unwrap_or_default()
+            rewriting.unwrap_or_default(),
+            writing.unwrap_or_default()
         )
     });
 }
@@ -161,7 +198,7 @@ fn compare_sheet(seen: &mut Seen, random: &mut Random, own: &OwnSheet) {
         5 => seen.lists[theirs.1.list as usize] += 1,
         _ => {}
     }
-    seen.note(ours == theirs && *own == copy, || {
+    seen.inputs.note(ours == theirs && *own == copy, || {
         format!("{:?} mix {} rate {} depth {}: {:?}, and the Rust code {:?}", copy, mix, rate, depth, ours, theirs)
     });
 }
@@ -171,8 +208,51 @@ fn compare_reading(seen: &mut Seen, random: &mut Random) {
     let ours = linked::reading(millimetres, reading);
     let theirs = reference::reading(millimetres, reading);
     seen.readings[theirs.answer as usize] += 1;
-    seen.note(ours == theirs, || {
+    seen.inputs.note(ours == theirs, || {
         format!("reading {:#x} mm {}: {:?}, and the Rust code {:?}", reading.to_bits(), millimetres, ours, theirs)
+    });
+}
+
+/// Whether a written text reads as the values that it was written from, and is not answered as one that does not read.
+fn reads_back(text: &[u8], head: &Head, areas: &[u64]) -> bool {
+    let mut answer = [0; ROOM];
+    let length = linked::answer(text, &mut answer);
+    let read = ![1, 2, 3, 14].contains(&number_of(&answer[..length]));
+    read && reference::values(text) == Some((*head, areas.to_vec()))
+}
+
+fn compare_values(seen: &mut Seen, random: &mut Random) {
+    let (head, areas) = if random.one_in(2) { generate::values(random) } else { generate::damaged_values(random) };
+    let copy = areas.clone();
+    let length = reference::write(&head, &areas, &mut [0; JOB_ROOM]).len;
+    let room = match random.below(6) {
+        0 => 0,
+        1 => length,
+        2 => length.saturating_sub(1),
+        3 => random.below(length as u64 + 1) as usize,
+        _ => length + random.below(JOB_ROOM as u64) as usize,
+    };
+    let before: Vec<u8> = (0..room + 2 * MARGIN).map(|_| random.next() as u8).collect();
+    let (mut ours, mut theirs) = (before.clone(), before);
+    let our_answer = linked::write(&head, &areas, &mut ours[MARGIN..MARGIN + room]);
+    let their_answer = reference::write(&head, &areas, &mut theirs[MARGIN..MARGIN + room]);
+    seen.writes[their_answer.answer as usize] += 1;
+    let text = &ours[MARGIN..MARGIN + our_answer.len.min(room)];
+    let read = our_answer.answer == 0 && reads_back(text, &head, &areas);
+    seen.read_back += read as u64;
+    let same = our_answer == their_answer && ours == theirs && read == (their_answer.answer == 0);
+    seen.values.note(same && areas == copy, || {
+        format!(
+            "{:?} with {:?} and room {}: {:?} \"{}\", and the Rust code {:?} \"{}\"; it reads back: {}",
+            head,
+            copy,
+            room,
+            our_answer,
+            shown(text),
+            their_answer,
+            shown(&theirs[MARGIN..MARGIN + their_answer.len]),
+            read
+        )
     });
 }
 
@@ -236,7 +316,10 @@ fn main() -> ExitCode {
     for _ in 0..count {
         compare_one(&mut seen, &mut random);
     }
-    println!("{} inputs compared, {} differed", seen.compared, seen.differed);
+    for _ in 0..count / 4 {
+        compare_values(&mut seen, &mut random);
+    }
+    println!("{} inputs compared, {} differed", seen.inputs.compared, seen.inputs.differed);
     println!("numbers given back, by jobs: {}", told(&seen.jobs));
     println!("  by percents of a sheet: {}", told(&seen.percents));
     println!("  by readings: {}", told(&seen.readings));
@@ -251,7 +334,10 @@ fn main() -> ExitCode {
         "job texts with a U: {} rewritten, {} of them answered otherwise by the old rules; {} left as they came",
         seen.rewritten, seen.answered_otherwise, seen.left
     );
-    let mut whole = seen.differed == 0;
+    println!("job texts that read: {} written back from their values", seen.written_back);
+    println!("{} jobs as values compared, {} differed", seen.values.compared, seen.values.differed);
+    println!("numbers given back, by writing: {}; texts read back: {}", told(&seen.writes), seen.read_back);
+    let mut whole = seen.inputs.differed == 0 && seen.values.differed == 0;
     match vectors {
         None => println!("no folder of vectors was given: none was run"),
         Some(folder) => {

@@ -1,19 +1,19 @@
 //! Runs one job over and over on one side, so that its cost can be counted.
 //!
-//!     measure ours|rust load|credit|size|refused COUNT     the nanoseconds of a job, the least of five rounds of COUNT
-//!     measure ours|rust load|credit|size|refused stack     the bytes of stack that a job takes
-//!     measure text load|credit|size|refused                the job text itself
+//!     measure ours|rust KIND COUNT     the nanoseconds of a job, the least of five rounds of COUNT
+//!     measure ours|rust KIND stack     the bytes of stack that a job takes
+//!     measure text KIND                the text of a job that is answered
 //!
-//! The caller lends one buffer for the answer text to every run, and clears it for none.
+//! A job of the kinds load, credit, size and refused is answered, from its text to its answer text; one of the kinds write-3
+//! and write-32 is written, from its values to its text. The caller lends one buffer for that to every run, and clears it
+//! for none.
 
 use std::time::Instant;
 
-use bench::generate::{LAND_USES, SOILS};
+use bench::generate::{longest, LAND_USES, SOILS};
 #[cfg(feature = "linked")]
 use bench::linked;
-use bench::{reference, ROOM};
-
-type Answer = fn(&[u8], &mut [u8]) -> usize;
+use bench::{reference, Head, Written, JOB_ROOM};
 
 /// The job text of a kind: the load job of jobs/sample.job, the same with a land use that does not exist in its
 /// last line, or a credit or a sizing on 32 sub-areas of every land use and soil.
@@ -29,7 +29,7 @@ fn text(kind: &str) -> String {
     let amount = match kind {
         "credit" => 48_155_000_000u64,
         "size" => 70_000,
-        _ => panic!("load, credit, size or refused"),
+        _ => panic!("{} is no kind", kind),
     };
     let mut text = format!("practice=basin\nnutrient=P\nmode=mix\nrate=39\ntask={}\namount={}\n", kind, amount);
     for k in 0..32 {
@@ -48,26 +48,63 @@ fn opaque<T: Copy>(value: T) -> T {
     unsafe { std::ptr::read_volatile(&value) }
 }
 
-/// The bytes of stack below the caller's that an answer takes. It runs on a stack of its own, which is painted
+/// The values of a kind: those of jobs/sample.job, or of the longest text.
+fn values(kind: &str) -> Option<(Head, Vec<u64>)> {
+    match kind {
+        "write-3" => {
+            let head = Head { practice: 1, nutrient: 1, mode: 0, rate: 0, task: 0, amount: 0 };
+            Some((head, vec![1, 0, 6, 1013, 0, 1, 2, 185, 6, 1, 2, 89]))
+        }
+        "write-32" => Some(longest()),
+        _ => None,
+    }
+}
+
+type Answer = fn(&[u8], &mut [u8]) -> usize;
+type Write = fn(&Head, &[u64], &mut [u8]) -> Written;
+
+/// A call of one side and what it is given: the text of a job to be answered, or the values of one to be written.
+enum Work {
+    Answer(Answer, Vec<u8>),
+    Write(Write, Head, Vec<u64>),
+}
+
+impl Work {
+    fn of(kind: &str, answer: Answer, write: Write) -> Work {
+        match values(kind) {
+            Some((head, areas)) => Work::Write(opaque(write), head, areas),
+            None => Work::Answer(opaque(answer), text(kind).into_bytes()),
+        }
+    }
+
+    /// The length of the text that is written into `room`.
+    fn run(&self, room: &mut [u8]) -> usize {
+        match self {
+            Work::Answer(answer, job) => answer(job, room),
+            Work::Write(write, head, areas) => write(head, areas, room).len,
+        }
+    }
+}
+
+/// The bytes of stack below the caller's that a call takes. It runs on a stack of its own, which is painted
 /// beforehand: what has lost its paint afterwards was used. Less what calling a function that does nothing uses. Bytes
 /// that a function reserves and never writes do not show below its deepest call.
 #[cfg(target_arch = "x86_64")]
-fn stack(answer: Answer, job: &[u8]) -> usize {
+fn stack(work: &Work) -> usize {
     const SIZE: usize = 1 << 18;
     struct Call<'a> {
-        answer: Answer,
-        job: &'a [u8],
-        room: [u8; ROOM],
+        work: &'a Work,
+        room: [u8; JOB_ROOM],
     }
     extern "C" fn run(call: &mut Call) {
-        opaque((call.answer)(call.job, &mut call.room));
+        opaque(call.work.run(&mut call.room));
     }
     fn nothing(_: &[u8], _: &mut [u8]) -> usize {
         0
     }
-    let used = |answer: Answer, paint: u8| {
+    let used = |work: &Work, paint: u8| {
         let mut painted = vec![paint; SIZE];
-        let mut call = Call { answer: opaque(answer), job, room: [0; ROOM] };
+        let mut call = Call { work, room: [0; JOB_ROOM] };
         // Safe where it takes less than SIZE bytes: run returns and keeps r12, as every C function does, and the top is
         // aligned to 16.
         unsafe {
@@ -89,38 +126,36 @@ fn stack(answer: Answer, job: &[u8]) -> usize {
         SIZE - lowest
     };
     // A byte that is stored in the paint's own colour shows under the other one. What a first call alone does is done.
-    opaque(answer(job, &mut [0; ROOM]));
-    let deepest = |answer| used(answer, 0x5a).max(used(answer, 0xa5));
-    deepest(answer) - deepest(nothing)
+    opaque(work.run(&mut [0; JOB_ROOM]));
+    let deepest = |work| used(work, 0x5a).max(used(work, 0xa5));
+    deepest(work) - deepest(&Work::Answer(opaque(nothing as Answer), Vec::new()))
 }
 
 #[cfg(not(target_arch = "x86_64"))]
-fn stack(_: Answer, _: &[u8]) -> usize {
+fn stack(_: &Work) -> usize {
     panic!("the stack is measured on x86-64 alone")
 }
 
 fn main() {
     let words: Vec<String> = std::env::args().skip(1).collect();
     let words: Vec<&str> = words.iter().map(|word| word.as_str()).collect();
-    let (answer, kind, asked): (Answer, _, _) = match words[..] {
+    let (work, asked) = match words[..] {
         #[cfg(feature = "linked")]
-        ["ours", kind, asked] => (linked::answer, kind, asked),
-        ["rust", kind, asked] => (reference::answer, kind, asked),
+        ["ours", kind, asked] => (Work::of(kind, linked::answer, linked::write), asked),
+        ["rust", kind, asked] => (Work::of(kind, reference::answer, reference::write), asked),
         ["text", kind] => return print!("{}", text(kind)),
-        _ => panic!("measure ours|rust load|credit|size|refused COUNT|stack, or measure text load|credit|size|refused"),
+        _ => panic!("measure ours|rust load|credit|size|refused|write-3|write-32 COUNT|stack, or measure text KIND"),
     };
-    let job = text(kind).into_bytes();
     if asked == "stack" {
-        return println!("{}", stack(answer, &job));
+        return println!("{}", stack(&work));
     }
     let count: u64 = asked.parse().expect("a count");
-    let answer = opaque(answer);
-    let mut room = [0; ROOM];
+    let mut room = [0; JOB_ROOM];
     let mut least = f64::INFINITY;
     for _ in 0..5 {
         let start = Instant::now();
         for _ in 0..count {
-            opaque(answer(&job, &mut room));
+            opaque(work.run(&mut room));
         }
         least = least.min(start.elapsed().as_nanos() as f64 / count as f64);
     }

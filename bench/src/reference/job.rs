@@ -4,7 +4,7 @@ use super::site::{Site, Soil, SubArea};
 use crate::Part;
 
 const MOST_BYTES: usize = 4096;
-const MOST_DIGITS: usize = 14;
+pub const MOST_DIGITS: usize = 14;
 
 #[derive(Clone, Copy, PartialEq, Eq)]
 pub enum Task {

@@ -6,19 +6,22 @@ mod job;
 mod probe;
 mod rewrite;
 mod site;
+mod write;
 
 use crate::tables::PUBLISHED;
-use crate::{Calls, Part, PercentAnswer, Sheet, Value, Verdict};
+use crate::{Calls, Head, Part, PercentAnswer, Sheet, Value, Verdict};
 use answer::{Figures, Outcome};
 use curve::Curve;
 use job::{Job, Task};
 pub use rewrite::rewrite;
-use site::{Ground, Soil, GRID, UNKNOWN_FOR_RUNOFF};
+use site::{Ground, Soil, SubArea, GRID, UNKNOWN_FOR_RUNOFF};
+pub use write::write;
 
 const LARGEST: u64 = 10_000_000_000_000;
 const MOST_PERCENT: u64 = 100_000;
 
-pub const CALLS: Calls = Calls { name: "the Rust code", answer, answer_on, fault, sheet, percent, reading, rewrite };
+pub const CALLS: Calls =
+    Calls { name: "the Rust code", answer, answer_on, fault, sheet, percent, reading, rewrite, write };
 
 /// The answer text of a job on the published tables, written into `text`: its length, or 0 where it does not fit.
 pub fn answer(job: &[u8], text: &mut [u8]) -> usize {
@@ -41,6 +44,21 @@ pub fn fault(job: &[u8]) -> Part {
         Err(fault) if fault.answer == 1 => fault.part,
         _ => Part { from: job.len(), len: 0 },
     }
+}
+
+/// The values of a job text that reads: its head, and four numbers for each sub-area.
+pub fn values(text: &[u8]) -> Option<(Head, Vec<u64>)> {
+    let job = job::read(text).ok()?;
+    let head = Head {
+        practice: job.practice as u64,
+        nutrient: job.nutrient as u64,
+        mode: job.mix as u64,
+        rate: job.rate,
+        task: job.task as u64,
+        amount: job.amount,
+    };
+    let numbers = |part: &SubArea| [part.land_use as u64, !part.impervious as u64, part.soil as u64, part.area];
+    Some((head, job.site.parts().iter().flat_map(numbers).collect()))
 }
 
 /// The test of a sheet.

@@ -4,8 +4,8 @@ use crate::tables::{EXPORT_RATES, RUNOFF_ROWS};
 
 /// The deepest grid depth.
 pub const GRID: u64 = 200;
-const MOST_AREA: u64 = 1_000_000;
-const MOST_PARTS: usize = 32;
+pub const MOST_AREA: u64 = 1_000_000;
+pub const MOST_PARTS: usize = 32;
 
 /// The soil as which an unknown one is read in Tables 3-1 and 3-2, and in Table 3-4.
 const UNKNOWN_FOR_LOAD: Soil = Soil::C;
@@ -85,7 +85,7 @@ impl Site {
         Ok(())
     }
 
-    fn parts(&self) -> &[SubArea] {
+    pub fn parts(&self) -> &[SubArea] {
         &self.parts[..self.count]
     }
 
