@@ -1,11 +1,14 @@
 -- The text of a job, its first six lines and the line of a sub-area, piece by piece, as they are put.
 -- Assumes nothing.
-use Prim.Native.Nat.{ℕ, _+_, _^_, _≤_, _<_}
+use Prim.Native.Nat.{ℕ, _+_, _-_, _^_, _≤_, _<_}
 use mathlib.Core.List.{List, [], _∷_, _++_, flatten, map, append-assoc, append-nil}
 use mathlib.Core.Path.{_≡_, refl, sym, _∙_, ap}
+use native.Mathlib.Nat.{zero-add}
+use native.Mathlib.Omega.{arith}
 use mir.Syntax.{w64}
 use mir.Val.{Fits}
-use lib.ListN.{length, drop, getD}
+use lib.ListN.{length, take, drop, getD, length-append, length-drop}
+use lib.Seq.{length-take-le}
 use Rattle.laws.specs.Text.{bytes}
 use Rattle.site.specs.declared.SubArea.{SubArea}
 use Rattle.site.specs.declared.Site.{Site}
@@ -15,9 +18,10 @@ use Rattle.text.specs.Pieces.{lineFeed, comma}
 use Rattle.text.specs.Numbers.{decimalOf}
 use Rattle.job.specs.declared.Job.{Job}
 use Rattle.job.specs.Words.{landWords, coverWords, soilWords, nutrientPlace, modePlace, taskPlace, landPlace, coverPlace, soilPlace}
-use Rattle.writing.specs.Writing.{putLength, bufferOf}
+use Rattle.writing.specs.Writing.{pasted, putLength, bufferOf}
+use Rattle.writing.proofs.Writing.{granted-length, granted-buffer}
 use Rattle.writing.specs.Lines.{lineWith, lineOf, wordAt as rowAt}
-use Rattle.writing.proofs.Rest.{Begun, restOf, withRest, begun-none, begun-first, begun-rest, begun-fits, begun-length, begun-buffer, first-fits, rest-within, rest-fits}
+use Rattle.writing.proofs.Rest.{Begun, restOf, withRest, begun-none, begun-first, begun-rest, begun-fits, first-fits, rest-within, rest-fits, pasted-none}
 use Rattle.jobtext.specs.Text.{wordAt, fieldOf, areaText, jobText}
 use Rattle.jobtext.specs.Inner.{endedWord, endedNumber, headText, areasText, Room}
 use Rattle.jobtext.proofs.Rows.{practiceRows, nutrientRows, modeRows, taskRows, landRows, coverRows, soilRows, practice-row, nutrient-row, mode-row, task-row, land-row, cover-row, soil-row}
@@ -63,48 +67,34 @@ head-split j = rw (practice-row (j .practice), nutrient-row (nutrientPlace (j .n
 pub head-begun : (d : List ℕ) (j : Job) → length (headText j) ≤ length d → Begun d (headText j) (headPieces j) d 0
 head-begun d j h = begun-none (headPieces j) (head-split j) h
 
--- The lines of the sub-areas from place i on are left to be put.
-pub record AreasLeft (d₀ : List ℕ) (s : Site) (d : List ℕ) (at i : ℕ) : Type 0 where
+-- The lines of the sub-areas from place i on are left to be put into a buffer, in which those of all of them go from a place on.
+pub record AreasLeft (head : List ℕ) (s : Site) (from : ℕ) (d : List ℕ) (at i : ℕ) : Type 0 where
   pub whole : Whole s
-  pub begun : Begun d₀ (areasText (partsOf s)) (map areaText (drop i (partsOf s))) d at
+  pub begun : Begun head (take from head ++ areasText (partsOf s)) (map areaText (drop i (partsOf s))) d at
 
-pub areas-none : (d : List ℕ) (s : Site) → length (s .parts) ≡ mostParts → Room (areasText (partsOf s)) s d → AreasLeft d s d 0 0
-unfolding areasText
-areas-none d s l r =
-    record { whole = record { places = l; count = r .count }; begun = begun-none (map areaText (partsOf s)) refl (r .fits) }
-
-module _ {d₀ : List ℕ} {s : Site} {d : List ℕ} {at i : ℕ} (p : AreasLeft d₀ s d at i) where
+module _ {head : List ℕ} {s : Site} {from : ℕ} {d : List ℕ} {at i : ℕ} (p : AreasLeft head s from d at i) where
   pub areas-within : at ≤ length d
   areas-within = rest-within (p .begun)
 
-  pub areas-same-length : length d ≡ length d₀
-  areas-same-length = p .begun .long
-
   module _ (h : i < s .count) where
-    one-begun : Begun d₀ (areasText (partsOf s)) (areaText (getD (s .parts) i blank) ∷ map areaText (drop (i + 1) (partsOf s))) d at
+    one-begun : Begun head (take from head ++ areasText (partsOf s)) (areaText (getD (s .parts) i blank) ∷ map areaText (drop (i + 1) (partsOf s))) d at
     one-begun = rw (part-at s i (p .whole) h) at (p .begun)
 
     pub area-fits : length (areaText (getD (s .parts) i blank)) ≤ length (restOf d at)
     area-fits = rest-fits one-begun
 
     module _ {r : ℕ} {after : List ℕ} (a : r ≡ putLength (restOf d at) (areaText (getD (s .parts) i blank))) (b : after ≡ bufferOf (restOf d at) (areaText (getD (s .parts) i blank))) where
-      pub area-end-fits : length d₀ < 2 ^ 64 → Fits w64 (at + r)
-      area-end-fits l = begun-fits (begun-rest one-begun a b) l
+      pub area-end-fits : {long : ℕ} → length head ≡ long → long < 2 ^ 64 → Fits w64 (at + r)
+      area-end-fits same l = begun-fits (begun-rest one-begun a b) (rw same l)
 
-      pub areas-next : AreasLeft d₀ s (withRest d at after) (at + r) (i + 1)
+      pub areas-next : AreasLeft head s from (withRest d at after) (at + r) (i + 1)
       areas-next = record { whole = p .whole; begun = begun-rest one-begun a b }
 
   module _ (h : s .count ≤ i) where
-    none-begun : Begun d₀ (areasText (partsOf s)) [] d at
-    none-begun = rw (none-left s i (p .whole) h) at (p .begun)
+    areas-all : Begun head (take from head ++ areasText (partsOf s)) [] d at
+    areas-all = rw (none-left s i (p .whole) h) at (p .begun)
 
-    pub areas-length : at ≡ putLength d₀ (areasText (partsOf s))
-    areas-length = begun-length none-begun
-
-    pub areas-buffer : d ≡ bufferOf d₀ (areasText (partsOf s))
-    areas-buffer = begun-buffer none-begun
-
--- The whole text: the first six lines in the buffer, and the areas in the rest.
+-- The whole text: the first six lines in the buffer, and the areas behind them.
 module _ (d : List ℕ) (j : Job) (s : Site) (room : Room (jobText j (partsOf s)) s d) where
   job-begun : Begun d (jobText j (partsOf s)) (headText j ∷ areasText (partsOf s) ∷ []) d 0
   unfolding flatten
@@ -116,25 +106,61 @@ module _ (d : List ℕ) (j : Job) (s : Site) (room : Room (jobText j (partsOf s)
   pub head-fits : length (headText j) ≤ length d
   head-fits = first-fits job-begun
 
-  module _ {at : ℕ} {head : List ℕ} (a : at ≡ putLength d (headText j)) (b : head ≡ bufferOf d (headText j)) where
-    head-put : Begun d (jobText j (partsOf s)) (areasText (partsOf s) ∷ []) head at
+  module _ {from : ℕ} {head : List ℕ} (a : from ≡ putLength d (headText j)) (b : head ≡ bufferOf d (headText j)) where
+    abbrev areas : List ℕ
+    areas = areasText (partsOf s)
+
+    head-put : Begun d (jobText j (partsOf s)) (areas ∷ []) head from
     head-put = begun-first job-begun a b
 
-    pub head-within : at ≤ length head
-    head-within = rest-within head-put
+    room-left : from + length areas ≤ length head
+    unfolding flatten
+    room-left =
+        let l = rest-fits head-put in
+        let w = rest-within head-put in
+        let m = length-take-le (length head - from) (drop from head) (rw (length-drop from head) (omega arith)) in
+        omega arith
 
-    pub areas-room : Room (areasText (partsOf s)) s (restOf head at)
-    areas-room = record { count = room .count; fits = rest-fits head-put }
+    whole-long : length (take from head ++ areas) ≡ from + length areas
+    whole-long =
+        let l = room-left in
+        length-append (take from head) areas ∙ rw (length-take-le from head (omega arith))
 
-    module _ {r : ℕ} {after : List ℕ} (x : r ≡ putLength (restOf head at) (areasText (partsOf s))) (y : after ≡ bufferOf (restOf head at) (areasText (partsOf s))) where
-      job-put : Begun d (jobText j (partsOf s)) [] (withRest head at after) (at + r)
-      job-put = begun-rest head-put x y
+    pub areas-none : length (s .parts) ≡ mostParts → AreasLeft head s from head from 0
+    unfolding areasText pasted
+    areas-none l =
+        record {
+          whole = record { places = l; count = room .count };
+          begun =
+              record {
+                fits = rw whole-long room-left;
+                long = refl;
+                place = sym whole-long;
+                holds = rw (whole-long, zero-add (from + length areas));
+              };
+        }
 
-      pub job-fits : length d < 2 ^ 64 → Fits w64 (at + r)
-      job-fits l = begun-fits job-put l
+    pub head-same-length : length head ≡ length d
+    head-same-length = head-put .long
 
-      pub job-length : at + r ≡ putLength d (jobText j (partsOf s))
-      job-length = begun-length job-put
+    pub areas-same-length : {at i : ℕ} {after : List ℕ} → AreasLeft head s from after at i → length after ≡ length d
+    areas-same-length p = p .begun .long ∙ head-same-length
 
-      pub job-buffer : withRest head at after ≡ bufferOf d (jobText j (partsOf s))
-      job-buffer = begun-buffer job-put
+    module _ {at i : ℕ} {after : List ℕ} (p : AreasLeft head s from after at i) (h : s .count ≤ i) where
+      pub job-length : at ≡ putLength d (jobText j (partsOf s))
+      unfolding flatten
+      job-length =
+          let all = areas-all p h .place in
+          let w = whole-long in
+          let q = head-put .place in
+          let e = ap length (append-nil areas) in
+          let whole : at ≡ length (jobText j (partsOf s)) = omega arith in
+          whole ∙ granted-length d (jobText j (partsOf s)) (room .fits)
+
+      pub job-buffer : after ≡ bufferOf d (jobText j (partsOf s))
+      unfolding flatten pasted
+      job-buffer =
+          sym (pasted-none after at) ∙ areas-all p h .holds ∙ one-place ∙ head-put .holds ∙ granted-buffer d (jobText j (partsOf s)) (room .fits)
+        where
+          one-place : pasted head 0 (take from head ++ areas) ≡ pasted head from (areas ++ [])
+          one-place = rw (append-nil areas, whole-long, zero-add (from + length areas))

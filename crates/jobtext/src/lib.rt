@@ -130,14 +130,22 @@ fn areas_size(site: Site) -> usize
     size
 }
 
-// Puts the text at the start of buf and answers its length: the first six lines, and those of the sub-areas into the rest.
+// Puts the text at the start of buf and answers its length: the first six lines, and then the line of each sub-area into the rest of
+// buf behind the one before it.
 fn put_text(job: Job, site: Site, buf: &mut [u8]) -> usize
     requires { ⌜ Room (jobText job (partsOf site)) site (now buf) ⌝ }
     ensures { λ r. ⌜ r ≡ putLength (now (buf .entry)) (jobText job (partsOf site)) ⌝ }
     ensures { λ _. ⌜ now (buf .exit) ≡ bufferOf (now (buf .entry)) (jobText job (partsOf site)) ⌝ }
 {
-    let areas = put_head(job, buf);
-    areas + put_areas(site, &mut buf[areas..])
+    let count = site.count;
+    let mut at = put_head(job, buf);
+    let mut i = 0;
+    while i < count {
+        let part = site.parts[i];
+        at += put_area(part, &mut buf[at..]);
+        i += 1;
+    }
+    at
 }
 
 // Puts the first six lines, each into the rest of buf behind the one before it.
@@ -182,23 +190,6 @@ fn put_head(job: Job, buf: &mut [u8]) -> usize
             &mut buf[task..],
         );
     amount + number_line(b"amount=", job.amount, &mut buf[amount..])
-}
-
-// Puts the lines of the sub-areas, each into the rest of buf behind the one before it.
-fn put_areas(site: Site, buf: &mut [u8]) -> usize
-    requires { ⌜ Room (areasText (partsOf site)) site (now buf) ⌝ }
-    ensures { λ r. ⌜ r ≡ putLength (now (buf .entry)) (areasText (partsOf site)) ⌝ }
-    ensures { λ _. ⌜ now (buf .exit) ≡ bufferOf (now (buf .entry)) (areasText (partsOf site)) ⌝ }
-{
-    let count = site.count;
-    let mut at = 0;
-    let mut i = 0;
-    while i < count {
-        let part = site.parts[i];
-        at += put_area(part, &mut buf[at..]);
-        i += 1;
-    }
-    at
 }
 
 // Puts the line of a sub-area: its key into the part that it fills, and each field into the rest behind it.

@@ -3,7 +3,8 @@
 use Prim.Native.Nat.{ℕ, _/_, _%_, _≤_, _<_}
 use mathlib.Core.Bool.{Bool, true, false, not}
 use mathlib.Core.List.{List}
-use mathlib.Core.Path.{_≡_, _∙_}
+use mathlib.Core.Path.{_≡_, sym, _∙_, ap}
+use native.Mathlib.Nat.{div-mul-le-self}
 use borrow.Author.Tests.{eq-eqb, ne-eqb, le-leb, lt-leb, not-true, not-false}
 use lib.ListN.{length}
 use Rattle.refusal.specs.declared.Refusal.the-variants.{MalformedText, SiteFull}
@@ -13,9 +14,8 @@ use Rattle.writing.specs.declared.Written.{Written}
 use Rattle.writing.specs.declared.Written.the-variants.{Refused}
 use Rattle.jobtext.specs.Text.{jobWritten, jobBuffer}
 use Rattle.jobtext.specs.Records.{siteOf}
-use Rattle.sagecruet.specs.declared.Coded.{Coded}
-use Rattle.sagecruet.specs.Codes.{Codes, countIn, headWorded, jobIn, areasIn, codesWritten, codesBuffer}
-use Rattle.sagecruet.specs.Inner.{Read}
+use Rattle.sagecruet.specs.Codes.{Codes, countIn, partsIn, allWorded, headWorded, jobIn, areasIn, codesWritten, codesBuffer}
+use Rattle.sagecruet.specs.Inner.{Worded}
 
 module _ (d : List ℕ) (c : Codes) where
   abbrev xs : List ℕ
@@ -47,27 +47,29 @@ module _ (d : List ℕ) (c : Codes) where
       unfolding codesBuffer
       head-keeps f = rw (eq-eqb (length xs % 4) 0 whole, le-leb (countIn xs) mostParts few, ← e, not-true ok f)
 
-      module _ (f : not ok ≡ false) {r : Coded} (read : Read (length xs / 4) xs r) where
-        pub areas-stop : not (r .worded) ≡ true → Refused MalformedText ≡ codesWritten d c
+      module _ (f : not ok ≡ false) {all : Bool} (w : all ≡ allWorded (length xs / 4) xs) where
+        pub areas-stop : not all ≡ true → Refused MalformedText ≡ codesWritten d c
         unfolding codesWritten
-        areas-stop g = rw (eq-eqb (length xs % 4) 0 whole, le-leb (countIn xs) mostParts few, ← e, not-false ok f, ← read .worded, not-true (r .worded) g)
+        areas-stop g = rw (eq-eqb (length xs % 4) 0 whole, le-leb (countIn xs) mostParts few, ← e, not-false ok f, ← w, not-true all g)
 
-        pub areas-keep : not (r .worded) ≡ true → d ≡ codesBuffer d c
+        pub areas-keep : not all ≡ true → d ≡ codesBuffer d c
         unfolding codesBuffer
-        areas-keep g = rw (eq-eqb (length xs % 4) 0 whole, le-leb (countIn xs) mostParts few, ← e, not-false ok f, ← read .worded, not-true (r .worded) g)
+        areas-keep g = rw (eq-eqb (length xs % 4) 0 whole, le-leb (countIn xs) mostParts few, ← e, not-false ok f, ← w, not-true all g)
 
-        module _ (g : not (r .worded) ≡ false) {j : Job} (is : j ≡ jobIn c) where
-          site-is : r .site ≡ siteOf (areasIn c)
-          site-is = read .site (not-false (r .worded) g)
-
-          pub job-answers : {x : Written} → x ≡ jobWritten d j (r .site) → x ≡ codesWritten d c
+        module _ (g : not all ≡ false) {j : Job} (is : j ≡ jobIn c) where
+          pub job-answers : {x : Written} → x ≡ jobWritten d j (siteOf (partsIn (length xs / 4) xs)) → x ≡ codesWritten d c
           unfolding codesWritten
           job-answers a =
-              rw (eq-eqb (length xs % 4) 0 whole, le-leb (countIn xs) mostParts few, ← e, not-false ok f, ← read .worded, not-false (r .worded) g)
-              (a ∙ (λ i. jobWritten d (is i) (site-is i)))
+              rw (eq-eqb (length xs % 4) 0 whole, le-leb (countIn xs) mostParts few, ← e, not-false ok f, ← w, not-false all g)
+              (a ∙ ap (λ (k : Job). jobWritten d k (siteOf (areasIn c))) is)
 
-          pub job-leaves : {after : List ℕ} → after ≡ jobBuffer d j (r .site) → after ≡ codesBuffer d c
+          pub job-leaves : {after : List ℕ} → after ≡ jobBuffer d j (siteOf (partsIn (length xs / 4) xs)) → after ≡ codesBuffer d c
           unfolding codesBuffer
           job-leaves a =
-              rw (eq-eqb (length xs % 4) 0 whole, le-leb (countIn xs) mostParts few, ← e, not-false ok f, ← read .worded, not-false (r .worded) g)
-              (a ∙ (λ i. jobBuffer d (is i) (site-is i)))
+              rw (eq-eqb (length xs % 4) 0 whole, le-leb (countIn xs) mostParts few, ← e, not-false ok f, ← w, not-false all g)
+              (a ∙ ap (λ (k : Job). jobBuffer d k (siteOf (areasIn c))) is)
+
+-- a list whose codes have words
+pub list-worded : (xs : List ℕ) {all : Bool} → length xs / 4 ≤ mostParts → all ≡ allWorded (length xs / 4) xs → not all ≡ false → Worded (length xs / 4) xs
+list-worded xs {all} h e g =
+    record { fours = record { long = div-mul-le-self (length xs) 4; few = h }; words = sym e ∙ not-false all g }

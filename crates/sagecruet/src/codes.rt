@@ -3,9 +3,10 @@ ghost use mathlib.Core.Path.{_≡_};
 ghost use Prim.Native.Nat.{_<_};
 ghost use mathlib.Core.List.{[]};
 ghost use Rattle.job.specs.Words.{nutrientAt, modeAt, taskAt, landAt, coverAt, soilAt};
-ghost use Rattle.sagecruet.specs.Codes.{told, partIn, worded, headWorded, jobIn, codesWritten, codesBuffer};
-ghost use Rattle.sagecruet.specs.Inner.{Fours, Read};
-use super::Coded;
+ghost use Rattle.jobtext.specs.Text.{jobWritten, jobBuffer};
+ghost use Rattle.jobtext.specs.Records.{siteOf};
+ghost use Rattle.sagecruet.specs.Codes.{told, partIn, worded, partsIn, allWorded, headWorded, jobIn, codesWritten, codesBuffer};
+ghost use Rattle.sagecruet.specs.Inner.{Fours, Worded};
 use curve::Mode;
 use job::Job;
 use job::Task;
@@ -123,34 +124,24 @@ fn part_of(land: u64, cover: u64, soil: u64, area: u64) -> SubArea
     }
 }
 
-// So many sub-areas of a list, stored one by one in an empty site; a code without a word ends it.
-fn read_areas(areas: &[u64], count: usize) -> Coded
+// Those of so many sub-areas of a list.
+fn all_worded(areas: &[u64], count: usize) -> bool
     requires { ⌜ Fours count (now areas) ⌝ }
-    ensures { λ r. ⌜ Read count (now (areas .entry)) r ⌝ }
+    ensures { λ r. ⌜ r ≡ allWorded count (now (areas .entry)) ⌝ }
 {
-    let mut site = site::empty();
     let mut i = 0;
     let mut at = 0;
     while i < count {
         let land = areas[at];
         let cover = areas[at + 1];
         let soil = areas[at + 2];
-        let area = areas[at + 3];
         if !part_worded(land, cover, soil) {
-            return Coded {
-                worded: false,
-                site,
-            };
+            return false;
         }
-        let number = site.counter;
-        site.parts[i] = part_of(land, cover, soil, area);
-        site.numbers[i] = number;
-        site.count = i + 1;
-        site.counter = number + 1;
         i += 1;
         at += 4;
     }
-    Coded { worded: true, site }
+    true
 }
 
 // The job of six numbers, whose codes have words.
@@ -166,6 +157,31 @@ fn job_of(practice: u64, nutrient: u64, mode: u64, rate: u64, task: u64, amount:
         task: task_at(task),
         amount,
     }
+}
+
+// Writes a job with the record of so many sub-areas of a list, which are stored one by one in an empty site.
+fn write_with(job: Job, areas: &[u64], count: usize, text: &mut [u8]) -> Written
+    requires { ⌜ Worded count (now areas) ⌝ }
+    ensures { λ r. ⌜ r ≡ jobWritten (now (text .entry)) job (siteOf (partsIn count (now (areas .entry)))) ⌝ }
+    ensures { λ _. ⌜ now (text .exit) ≡ jobBuffer (now (text .entry)) job (siteOf (partsIn count (now (areas .entry)))) ⌝ }
+{
+    let mut site = site::empty();
+    let mut i = 0;
+    let mut at = 0;
+    while i < count {
+        let land = areas[at];
+        let cover = areas[at + 1];
+        let soil = areas[at + 2];
+        let area = areas[at + 3];
+        let number = site.counter;
+        site.parts[i] = part_of(land, cover, soil, area);
+        site.numbers[i] = number;
+        site.count = i + 1;
+        site.counter = number + 1;
+        i += 1;
+        at += 4;
+    }
+    jobtext::write(job, site, text)
 }
 
 // The list is tried, then the codes; then the job is written with the record of its sub-areas.
@@ -192,10 +208,9 @@ pub fn write(
     if !head_worded(nutrient, mode, task) {
         return Written::Refused(Refusal::MalformedText);
     }
-    let read = read_areas(areas, count);
-    if !read.worded {
+    if !all_worded(areas, count) {
         return Written::Refused(Refusal::MalformedText);
     }
     let job = job_of(practice, nutrient, mode, rate, task, amount);
-    jobtext::write(job, read.site, text)
+    write_with(job, areas, count, text)
 }

@@ -14,7 +14,6 @@ use curve::Mode;
 use probe::RateAnswer;
 use probe::Reading;
 use refusal::Refusal;
-use site::Site;
 use units::Depth;
 use units::Rate;
 use writing::Written;
@@ -33,12 +32,6 @@ pub struct Part {
 pub struct JobWritten {
     pub answer: u64,
     pub len: usize,
-}
-
-// Sub-areas told by numbers: whether all codes have words, and then the record of the sub-areas.
-struct Coded {
-    worded: bool,
-    site: Site,
 }
 
 // What the test of a sheet says: 0, or 5 with the list and the place.

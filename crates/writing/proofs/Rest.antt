@@ -29,7 +29,8 @@ pasted-after d at t u h =
       ← append-assoc (take at d) t u,
     )
 
-pasted-none : (d : List ℕ) (at : ℕ) → pasted d at [] ≡ d
+-- Nothing over a buffer leaves it as it is.
+pub pasted-none : (d : List ℕ) (at : ℕ) → pasted d at [] ≡ d
 unfolding pasted
 pasted-none d at = rw (append-nil (take at d), add-zero at) (take-append-drop at d)
 

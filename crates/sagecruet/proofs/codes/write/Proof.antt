@@ -1,7 +1,7 @@
 -- `sagecruet::codes::write` meets its contract: the list is tried, then the codes, and the job is written behind them.
 -- Assumes nothing.
 use Rattle.sagecruet.proofs.Words.{head-told}
-use Rattle.sagecruet.proofs.Telling.{list-stops, list-keeps, many-stops, many-keeps, head-stops, head-keeps, areas-stop, areas-keep, job-answers, job-leaves}
+use Rattle.sagecruet.proofs.Telling.{list-stops, list-keeps, many-stops, many-keeps, head-stops, head-keeps, areas-stop, areas-keep, job-answers, job-leaves, list-worded}
 use borrow.Author.Needs.{needs}
 use Rattle.sagecruet.proofs.codes.write.Statement.{statement}
 use Rattle.sagecruet.proofs.codes.write.Tie as tie
@@ -18,17 +18,17 @@ head-worded-requires c κs = search needs
 returns-3 : tie.Need-returns-3
 returns-3 c = (search (head-stops, needs), search (head-keeps, needs))
 
-read-areas-requires : tie.Need-read-areas-requires
-read-areas-requires c κs = search needs
+all-worded-requires : tie.Need-all-worded-requires
+all-worded-requires c κs = search needs
 
 returns-4 : tie.Need-returns-4
 returns-4 c = (search (areas-stop, needs), search (areas-keep, needs))
 
 job-of-requires : tie.Need-job-of-requires
-job-of-requires c κs = head-told _ _ _ (c .before .before .before .before .head-worded .ensures) (c .before .before .before .if3 .left)
+job-of-requires c κs = head-told _ _ _ (c .before .before .before .head-worded .ensures) (c .before .before .if3 .left)
 
-write-requires : tie.Need-write-requires
-write-requires c κs = search needs
+write-with-requires : tie.Need-write-with-requires
+write-with-requires c κs = list-worded _ (c .before .before .before .before .before .before .if2 .left) (c .before .before .before .all-worded .ensures) (c .before .before .if4 .left)
 
 same-length : tie.Need-same-length
 same-length c = search needs
@@ -44,9 +44,9 @@ write-spec =
     returns-2
     head-worded-requires
     returns-3
-    read-areas-requires
+    all-worded-requires
     returns-4
     job-of-requires
-    write-requires
+    write-with-requires
     same-length
     returns-5)

@@ -1,17 +1,19 @@
--- `sagecruet::codes::read_areas` meets its contract: the sub-areas so far are stored, and those that are left decide the rest.
+-- `sagecruet::codes::write_with` meets its contract: the sub-areas so far are stored, and with those that are left the record is whole.
 -- Assumes nothing.
 use borrow.Author.Needs.{needs}
 use Prim.Native.Nat.{_-_}
+use mathlib.Core.Path.{refl, _∙_, ap}
+use Rattle.jobtext.specs.Text.{jobWritten, jobBuffer}
 use Rattle.sagecruet.proofs.Words.{part-told}
-use Rattle.sagecruet.proofs.Reading.{Walked, walked-none, land-there, cover-there, soil-there, area-there, one-fits, two-fits, three-fits, four-fits, number-fits, walked-stops, walked-next, walked-all}
-use Rattle.sagecruet.proofs.codes.read_areas.Statement.{statement}
-use Rattle.sagecruet.proofs.codes.read_areas.Tie as tie
+use Rattle.sagecruet.proofs.Reading.{Walked, walked-none, land-there, cover-there, soil-there, area-there, one-fits, two-fits, three-fits, four-fits, here-worded, number-fits, walked-next, walked-all}
+use Rattle.sagecruet.proofs.codes.write_with.Statement.{statement}
+use Rattle.sagecruet.proofs.codes.write_with.Tie as tie
 
 abbrev Inv-loop : tie.InvT-loop
-Inv-loop areas count site₀ i₀ at₀ site i at = Walked count areas site i at
+Inv-loop job areas count text site₀ i₀ at₀ site i at = Walked count areas site i at
 
 abbrev μ-loop : tie.MeasureT-loop
-μ-loop areas count site₀ i₀ at₀ site i at = count - i
+μ-loop job areas count text site₀ i₀ at₀ site i at = count - i
 
 empty-requires : tie.Need-empty-requires Inv-loop μ-loop
 empty-requires c κs = search needs
@@ -52,17 +54,11 @@ mul-area c = search needs
 shared-slice-read-area : tie.Need-shared-slice-read-area Inv-loop μ-loop
 shared-slice-read-area c = search (area-there, needs)
 
-part-worded-requires : tie.Need-part-worded-requires Inv-loop μ-loop
-part-worded-requires c κs = search needs
-
-returns : tie.Need-returns Inv-loop μ-loop
-returns c = search (walked-stops, needs)
-
 part-of-requires : tie.Need-part-of-requires Inv-loop μ-loop
-part-of-requires c κs = part-told _ _ _ (c .before .part-worded .ensures) (c .if1 .left)
+part-of-requires c κs = part-told _ _ _ (here-worded (c .before .before .before .before .before .loop .inv) (c .before .before .before .before .loop-test .taken)) refl
 
-mul-t13 : tie.Need-mul-t13 Inv-loop μ-loop
-mul-t13 c = search needs
+mul-t15 : tie.Need-mul-t15 Inv-loop μ-loop
+mul-t15 c = search needs
 
 element-set-from-site : tie.Need-element-set-from-site Inv-loop μ-loop
 element-set-from-site c = search needs
@@ -89,14 +85,25 @@ loop-less : tie.Need-loop-less Inv-loop μ-loop
 loop-less c = search needs
 
 loop-again : tie.Need-loop-again Inv-loop μ-loop
-loop-again c =
-    walked-next (c .before .before .before .before .before .before .before .before .loop .inv) (c .before .before .before .before .before .before .before .loop-test .taken) (c .before .before .part-worded .ensures) (c .before .if1 .left) (c .part-of .ensures)
+loop-again c = search (walked-next, needs)
 
-returns-2 : tie.Need-returns-2 Inv-loop μ-loop
-returns-2 c = search (walked-all, needs)
+write-requires : tie.Need-write-requires Inv-loop μ-loop
+write-requires c κs = search needs
 
-pub read-areas-spec : {M : Type 1} → statement M
-read-areas-spec =
+same-length : tie.Need-same-length Inv-loop μ-loop
+same-length c = search needs
+
+returns : tie.Need-returns Inv-loop μ-loop
+returns c =
+    let start = c .before .before .before .before .before .before .before .before .before in
+    let site = walked-all (c .before .before .before .before .before .loop .inv) (c .before .before .before .before .loop-test .left) in
+    let written = c .before .before .write .ensures in (
+      written .0 ∙ ap (jobWritten (start .args .text .now) (start .args .job)) site,
+      written .1 ∙ ap (jobBuffer (start .args .text .now) (start .args .job)) site,
+    )
+
+pub write-with-spec : {M : Type 1} → statement M
+write-with-spec =
     tie.close
     (tie.spec
     Inv-loop
@@ -114,10 +121,8 @@ read-areas-spec =
     add-area
     mul-area
     shared-slice-read-area
-    part-worded-requires
-    returns
     part-of-requires
-    mul-t13
+    mul-t15
     element-set-from-site
     mul-site
     element-write-site
@@ -127,4 +132,6 @@ read-areas-spec =
     add-at
     loop-less
     loop-again
-    returns-2)
+    write-requires
+    same-length
+    returns)
