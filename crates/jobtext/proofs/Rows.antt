@@ -1,7 +1,7 @@
 -- The words of a job text as they stand in rows are the words of the lists, and none is longer than its row.
 -- Assumes nothing.
 use Prim.Native.Nat.{ℕ, _+_, _-_, _*_, _/_, _≤_, _<_}
-use mathlib.Core.List.{List}
+use mathlib.Core.List.{List, []}
 use mathlib.Core.Logic.{⊎-elim}
 use mathlib.Core.Path.{_≡_, refl, ap}
 use native.Mathlib.Omega.{arith}
@@ -9,29 +9,30 @@ use lib.ListN.{length, take, drop, length-take}
 use Rattle.laws.specs.Text.{bytes}
 use Rattle.laws.proofs.Order.{lt-or-le}
 use Rattle.text.specs.Part.{partOf}
-use Rattle.text.specs.Pieces.{space, indexOf, joined, pieces, nextOf}
+use Rattle.text.specs.Pieces.{indexOf, joined, pieces}
 use Rattle.text.specs.Words.{rowsFrom, rowsOf}
 use Rattle.job.specs.Words.{practiceWords, nutrientWords, modeWords, taskWords, landWords, coverWords, soilWords}
 use Rattle.writing.specs.Lines.{wordAt as rowAt}
-use Rattle.writing.proofs.Words.{no-row, size-within, word-is}
+use Rattle.writing.proofs.Words.{no-row, row-is, word-within}
 use Rattle.jobtext.specs.Text.{wordAt}
 
 module _ (n : ℕ) (words : List ℕ) (k : ℕ) where
-  abbrev sizeAt : ℕ
-  sizeAt = nextOf space (take (k * n + n - k * n) (drop (k * n) words)) 0
-
   row-size : length (rowAt n words k) ≤ n
   row-size = ⊎-elim there none (lt-or-le k (length words / n))
     where
       there : k < length words / n → length (rowAt n words k) ≤ n
       there h =
-          let w = size-within n words k h {size = sizeAt} refl in
-          let l = length-take (k * n + sizeAt - k * n) (drop (k * n) words) in
-          let e = ap length (word-is n words k h {size = sizeAt} refl) in
+          let row = take (k * n + n - k * n) (drop (k * n) words) in
+          let w = word-within row in
+          let l = length-take (k * n + n - k * n) (drop (k * n) words) in
+          let e = ap length (row-is n words k h) in
           omega arith
 
       none : length words / n ≤ k → length (rowAt n words k) ≤ n
-      none h = let e = ap length (no-row n words k h) in omega arith
+      none h =
+          let w = word-within [] in
+          let e = ap length (no-row n words k h) in
+          omega arith
 
   pub row-short : {r : ℕ} → r ≡ length (rowAt n words k) → r ≤ n
   row-short e = let l = row-size in omega arith

@@ -6,7 +6,8 @@ use mathlib.Core.List.{List, []}
 use native.Mathlib.Nat.{zero-mul, zero-add, suc-mul, mul-le-mul-right, div-zero, div-mul-le-self, add-comm}
 use native.Mathlib.Omega.{arith}
 use lib.ListN.{length, getD, take, drop, length-take, List·getD-eq-default}
-use lib.Seq.{drop-drop, take-take}
+use lib.Seq.{drop-drop}
+use Rattle.text.specs.Part.{partOf}
 use Rattle.text.specs.Pieces.{space, indexOf, beforeOf, nextOf}
 use Rattle.text.specs.Words.{rowsFrom, rowsOf}
 use Rattle.text.proofs.Parts.{part-head, part-tail}
@@ -27,15 +28,45 @@ row-at (suc count) n words zero h = rw (zero-mul n)
 row-at (suc count) n words (suc k) h =
     row-at count n (drop n words) k (omega arith) ∙ rw (drop-drop (k * n) n words, suc-mul k n, add-comm (k * n) n)
 
+-- A word is as long as the place of the first space says, and no longer than its row.
+pub size-told : (row : List ℕ) → nextOf space row 0 ≡ length (beforeOf space row)
+size-told row =
+    let i = index-within space row in
+    let l = length-take (indexOf space row) row in
+    zero-add _ ∙ ap (indexOf space) (part-tail row 0) ∙ sym (rw (part-head row (indexOf space row)) (omega arith))
+
+pub word-within : (row : List ℕ) → length (beforeOf space row) ≤ length row
+word-within row =
+    let l = length-take (indexOf space row) row in
+    rw (part-head row (indexOf space row)) (omega arith)
+
+-- The first bytes of a row, as many as its word has, are the word.
+pub word-is : (row : List ℕ) {size : ℕ} → size ≡ nextOf space row 0 → take size row ≡ beforeOf space row
+word-is row e =
+    let i = zero-add (indexOf space (partOf row 0 (length row))) ∙ ap (indexOf space) (part-tail row 0) in
+    rw (e, i, part-head row (indexOf space row))
+
+pub size-within : (row : List ℕ) {size : ℕ} → size ≡ nextOf space row 0 → size ≤ length row
+size-within row e =
+    let t = size-told row in
+    let w = word-within row in
+    omega arith
+
+-- nothing stands before the first space of nothing
+none-before : beforeOf space [] ≡ []
+unfolding partOf indexOf
+none-before = refl
+
 module _ (n : ℕ) (words : List ℕ) (k : ℕ) where
   -- Without a width, or past the last row, there is no word.
-  pub no-width : n < 1 → [] ≡ wordAt n words k
+  pub no-width : n < 1 → beforeOf space [] ≡ wordAt n words k
   unfolding wordAt rowsOf rowsFrom
-  no-width h = let z : n ≡ 0 = omega arith in rw (z, div-zero (length words))
+  no-width h = let z : n ≡ 0 = omega arith in none-before ∙ rw (z, div-zero (length words))
 
-  pub no-row : length words / n ≤ k → [] ≡ wordAt n words k
+  pub no-row : length words / n ≤ k → beforeOf space [] ≡ wordAt n words k
   unfolding wordAt rowsOf
-  no-row h = sym (List·getD-eq-default (rowsFrom (length words / n) n words) [] (rw (rows-long (length words / n) n words) h))
+  no-row h =
+      none-before ∙ sym (List·getD-eq-default (rowsFrom (length words / n) n words) [] (rw (rows-long (length words / n) n words) h))
 
   module _ (h : k < length words / n) where
     -- The row lies within the list,
@@ -47,27 +78,9 @@ module _ (n : ℕ) (words : List ℕ) (k : ℕ) where
         let e = suc-mul k n in
         omega arith
 
-    -- and its word ends before its first space.
-    module _ {size : ℕ} (z : size ≡ nextOf space (take (k * n + n - k * n) (drop (k * n) words)) 0) where
-      abbrev row : List ℕ
-      row = take n (drop (k * n) words)
-
-      size-is : size ≡ indexOf space row
-      size-is =
-          let e : k * n + n - k * n ≡ n = omega arith in
-          let i : size ≡ nextOf space row 0 = rw e at z in
-          i ∙ zero-add _ ∙ ap (indexOf space) (part-tail row 0)
-
-      pub size-within : size ≤ n
-      size-within =
-          let e = size-is in
-          let i = index-within space row in
-          let l = length-take n (drop (k * n) words) in
-          omega arith
-
-      pub word-is : take (k * n + size - k * n) (drop (k * n) words) ≡ wordAt n words k
-      unfolding wordAt rowsOf
-      word-is =
-          let f : k * n + size - k * n ≡ size = omega arith in
-          rw (row-at (length words / n) n words k h, part-head row (indexOf space row), f, ← size-is)
-          (sym (take-take size n (drop (k * n) words) size-within))
+    -- and its word stands before its first space.
+    pub row-is : beforeOf space (take (k * n + n - k * n) (drop (k * n) words)) ≡ wordAt n words k
+    unfolding wordAt rowsOf
+    row-is =
+        let e : k * n + n - k * n ≡ n = omega arith in
+        rw (e, row-at (length words / n) n words k h)

@@ -3,6 +3,7 @@
 ghost use mathlib.Core.Path.{_≡_};
 ghost use Prim.Native.Nat.{_+_, _≤_, _<_};
 ghost use lib.ListN.{length};
+ghost use Rattle.text.specs.Pieces.{space, beforeOf};
 ghost use Rattle.text.specs.Numbers.{digitZero, decimalOf};
 ghost use Rattle.writing.specs.Writing.{putLength, bufferOf};
 ghost use Rattle.writing.specs.Lines.{wordAt};
@@ -52,10 +53,10 @@ pub fn put(s: &[u8], buf: &mut [u8]) -> usize
     s.len()
 }
 
-// The word at place k of a list, counted from 0: nothing where there is none. The list has a row of so many bytes for each word,
-// filled up with spaces.
-fn word(words: &[u8], width: usize, k: usize) -> &[u8]
-    ensures { λ r. ⌜ now r ≡ wordAt width (now (words .entry)) k ⌝ }
+// The row at place k of a list, counted from 0: nothing where there is none. The list has a row of so many bytes for each word, filled
+// up with spaces.
+fn row(words: &[u8], width: usize, k: usize) -> &[u8]
+    ensures { λ r. ⌜ beforeOf space (now r) ≡ wordAt width (now (words .entry)) k ⌝ }
 {
     if width < 1 {
         return &words[0..0];
@@ -63,24 +64,46 @@ fn word(words: &[u8], width: usize, k: usize) -> &[u8]
     if words.len() / width <= k {
         return &words[0..0];
     }
-    let row = k * width;
-    let size = text::next(&words[row..row + width], b' ', 0);
-    &words[row..row + size]
+    let from = k * width;
+    &words[from..from + width]
 }
 
-// The length of that word.
+// The length of the word at place k of a list: it stands in its row before the first space.
 pub fn word_size(words: &[u8], width: usize, k: usize) -> usize
     ensures { λ r. ⌜ r ≡ length (wordAt width (now (words .entry)) k) ⌝ }
 {
-    word(words, width, k).len()
+    text::next(row(words, width, k), b' ', 0)
 }
 
-// Puts that word at the start of buf.
+// Puts that word at the start of buf. Where its whole row would fit, no length is worked out first.
 pub fn put_word(words: &[u8], width: usize, k: usize, buf: &mut [u8]) -> usize
     ensures { λ r. ⌜ r ≡ putLength (now (buf .entry)) (wordAt width (now (words .entry)) k) ⌝ }
     ensures { λ _. ⌜ now (buf .exit) ≡ bufferOf (now (buf .entry)) (wordAt width (now (words .entry)) k) ⌝ }
 {
-    put(word(words, width, k), buf)
+    let row = row(words, width, k);
+    if row.len() <= buf.len() {
+        return put_row(row, buf);
+    }
+    let size = text::next(row, b' ', 0);
+    put(&row[..size], buf)
+}
+
+// Puts the word of a row that would fit, byte by byte up to the first space.
+fn put_row(row: &[u8], buf: &mut [u8]) -> usize
+    requires { ⌜ length (now row) ≤ length (now buf) ⌝ }
+    ensures { λ r. ⌜ r ≡ putLength (now (buf .entry)) (beforeOf space (now (row .entry))) ⌝ }
+    ensures { λ _. ⌜ now (buf .exit) ≡ bufferOf (now (buf .entry)) (beforeOf space (now (row .entry))) ⌝ }
+{
+    let mut at = 0;
+    while at < row.len() {
+        let byte = row[at];
+        if byte == b' ' {
+            return at;
+        }
+        buf[at] = byte;
+        at += 1;
+    }
+    at
 }
 
 // The same for the digits of n: how many there are is worked out first, and they fill the part of buf that is lent on.
