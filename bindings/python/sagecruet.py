@@ -16,10 +16,10 @@ year, percents in thousandths of a percent. from_acres, to_acres and their likes
 REFUSALS says what the numbers given back mean; a job that cannot be written raises Refused with its number. The basis, a word
 of BASES, says how the percent beside it was found.
 
-The functions call the proved library, a shared object for x86-64 Linux. Where it cannot be loaded, answer and answer_text go
-by the program creditrun instead, for jobs on the published tables, rewrite goes by the program rewriterun, and the rest
-raises Unavailable, which says why and what to do. backend() says which answers a job: library or program.
-bindings/python/README.md says more.
+The functions call the proved library, a shared object for x86-64 Linux. Where it cannot be loaded, whatever asks for a
+job on the published tables (answer, answer_text, curve, plot) goes by the program creditrun instead, rewrite goes by the
+program rewriterun, job by the program entry, which calls the library, and the rest raises Unavailable, which says why and
+what to do. backend() says which answers a job: library or program. bindings/python/README.md says more.
 """
 
 import ctypes
@@ -362,6 +362,10 @@ def _loaded(place):
     return library
 
 
+_PROCESSORS = ("x86_64", "AMD64")  # those that the library is for, by the names that Python has for them
+_EMULATOR = "qemu-x86_64 -L /usr/x86_64-linux-gnu -E LD_LIBRARY_PATH=/usr/x86_64-linux-gnu/lib".split()  # see examples/c/Makefile
+
+
 def _library():
     """The library, or Unavailable with the reason."""
     place, machine = _place(), platform.machine()
@@ -372,7 +376,7 @@ def _library():
             return _loaded(place)
         except (OSError, AttributeError) as error:
             why = f"the library cannot be loaded: {error}"
-    if machine not in ("x86_64", "AMD64"):
+    if machine not in _PROCESSORS:
         raise Unavailable(f"the library is for x86-64 and this processor is {machine}{_instead()}")
     raise Unavailable(f"{why}; `make shared` in the repository's folder, FOLDER, writes it, and SAGECRUET_LIBRARY says where it "
                       "is: FOLDER/target/staticlib/libsagecruet.so")
@@ -384,7 +388,7 @@ def _instead():
         _program()
     except Unavailable:
         return ""
-    return "; here answer and answer_text work, on the published tables, by the program creditrun"
+    return "; here answer, answer_text, curve and plot work, on the published tables, by the program creditrun"
 
 
 # For each program the setting that names another command for it, and the option by which `run` starts it.
@@ -418,6 +422,20 @@ def _command(setting, named):
     return words
 
 
+def _writer():
+    """The command that writes a job from its numbers, or Unavailable with the reason: the C example entry, which calls the
+    library. It is built for x86-64 and runs under an emulator where the processor is another."""
+    named, repository = os.environ.get("SAGECRUET_WRITER", "").strip(), _repository()
+    if named:
+        return _command("SAGECRUET_WRITER", named)
+    if repository is None:
+        raise Unavailable("this module does not stand in the repository; SAGECRUET_WRITER says how examples/c/entry is started")
+    place = repository / "examples" / "c" / "entry"
+    if not place.is_file():
+        raise Unavailable(f"the program is not built; `make -C examples/c entry` in {repository} builds it, and the library first")
+    return ([] if platform.machine() in _PROCESSORS else _EMULATOR) + [str(place)]
+
+
 def _found(program="creditrun"):
     """("library", it), ("program", its command), or Unavailable with the reasons of both."""
     try:
@@ -425,7 +443,7 @@ def _found(program="creditrun"):
     except Unavailable as error:
         no_library = error
     try:
-        return "program", _program(program)
+        return "program", _writer() if program == "entry" else _program(program)
     except Unavailable as no_program:
         raise Unavailable(f"no library: {no_library}. No program: {no_program}.") from None
 
@@ -440,6 +458,9 @@ def backend():
 
 _ANSWER = re.compile((r"answer=0\nload=\d+\ndepth=\d+\ncredit=\d+\nbasis=(?:" + "|".join(BASES) + r")\nvolume=\d+\nremoved=\d+\n"
                       r"|answer=\d+\nline=\d+\n").encode())
+
+# What the program entry prints: with status 0 a job, with status 1 the number of a refusal.
+_WRITTEN = {0: re.compile(rb"practice=[a-z]+\n(?:[a-z]+=[\w,-]+\n){6,}"), 1: re.compile(rb"answer=(?:1|2|3|14)\n")}
 
 
 def _by_program(command, job, what, fits):
@@ -462,7 +483,7 @@ def job(practice, nutrient, mode, rate, task, amount, areas):
     """The text of a job, from its values and a list of (use, cover, soil, area). The library writes it: what is written reads
     as these values. A word or a number that no job may have raises Refused, with the number in its `answer`. Whether the job
     is granted, answer() says. The soil U means not known, and counts as C for loads and as D for runoff; where C is meant, C is
-    to be written. Needs the library.
+    to be written.
 
     >>> print(job("basin", "N", "step", 0, "load", 0, [("ind", "imp", "-", 1013)]), end="")
     practice=basin
@@ -483,8 +504,16 @@ def job(practice, nutrient, mode, rate, task, amount, areas):
             _refuse_kind(what, expected, area)
         parts += [_code(kind, word, what) for kind, word in zip(("use", "cover", "soil"), row)]
         parts.append(_unsigned(what, row[3], "acres"))
+    which, found = _found("entry")
+    if which == "program":
+        command = found + [str(number) for number in values + parts]
+        fits = lambda done: done.returncode in _WRITTEN and _WRITTEN[done.returncode].fullmatch(done.stdout)
+        text = _by_program(command, b"", "job", fits).decode()
+        if text.startswith("answer="):
+            raise Refused(int(text[len("answer="):]))
+        return text
     text = ctypes.create_string_buffer(JOB_ROOM)
-    written = _library().sagecruet_job(*values, *_list(parts), text, JOB_ROOM)
+    written = found.sagecruet_job(*values, *_list(parts), text, JOB_ROOM)
     if written.answer:
         raise Refused(written.answer)
     return text.raw[:written.length].decode()
@@ -632,7 +661,7 @@ def reading(value, millimetres=False):
 def curve(practice, nutrient, rate=0, mode="step", depths=range(0, 201, 10)):
     """Points (depth, percent) of a published curve, in whole numbers, at the depths that are asked for, 0 to 200. Each point is
     the answer of a credit job: the practice has the volume of that depth on a hundredth of an acre of pavement. What the
-    calculator refuses raises Refused. Needs the library.
+    calculator refuses raises Refused. By the programs a point costs a start of each.
 
     >>> curve("basin", "P", rate=52, depths=[0, 10, 30])
     [(0, 0), (10, 38000), (30, 66500)]
@@ -651,7 +680,7 @@ def curve(practice, nutrient, rate=0, mode="step", depths=range(0, 201, 10)):
 
 def plot(practice, nutrient, rates=None, mode="step", axes=None):
     """Draws the published curves of a practice with matplotlib, one for each rate, and gives back the axes. Without `rates`
-    they are those of the tables. Needs the library."""
+    they are those of the tables."""
     try:
         from matplotlib import pyplot
     except ImportError:

@@ -63,7 +63,7 @@ def rewrites():
 
 needs_answers = unittest.skipIf(sagecruet.backend() is None, "neither the library nor the program is there")
 needs_rewriting = unittest.skipIf(not rewrites(), "neither the library nor the program rewriterun is there")
-needs_writing = unittest.skipIf(not writes(), "the library, which writes jobs, cannot be loaded here")
+needs_writing = unittest.skipIf(not writes(), "neither the library nor the program entry is there")
 needs_library = unittest.skipIf(sagecruet.backend() != "library", "the library cannot be loaded here")
 needs_repository = unittest.skipIf(not IN_REPOSITORY, "the module does not stand in the repository")
 
@@ -76,7 +76,7 @@ def examples_need(test):
     if name in ("sagecruet", "answer", "curve", "md") and sagecruet.backend() is None:
         raise unittest.SkipTest("neither the library nor the program is there")
     if name in ("sagecruet", "job", "rewrite", "curve", "md") and not writes():
-        raise unittest.SkipTest("the library, which writes jobs, cannot be loaded here")
+        raise unittest.SkipTest("neither the library nor the program entry is there")
     if name in ("rewrite", "md") and not rewrites():
         raise unittest.SkipTest("neither the library nor the program rewriterun is there")
 
@@ -705,14 +705,14 @@ class WhatIsThere(unittest.TestCase):
             calls = (
                 lambda: module.fault(SIZE), lambda: module.sheet_verdict(T), lambda: module.percent(T, 50, 40),
                 lambda: module.reading(0.5), lambda: module.answer(SIZE, T), lambda: module.answer_text(SIZE, T),
-                lambda: module.job(*HEAD, PAVED), lambda: module.curve("sand", "P"),
             )
             for number, call in enumerate(calls):
                 with self.subTest(call=number), self.machine("x86_64"):
                     self.assertRaisesRegex(module.Unavailable, "`make shared` in the repository's folder", call)
                 with self.subTest(call=number), self.machine("aarch64"):
                     self.assertRaisesRegex(module.Unavailable, "is for x86-64 and this processor is aarch64", call)
-            for call in (lambda: module.answer(SIZE), lambda: module.answer_text(SIZE), lambda: module.rewrite(STORED)):
+            for call in (lambda: module.answer(SIZE), lambda: module.answer_text(SIZE), lambda: module.curve("sand", "P"),
+                         lambda: module.rewrite(STORED), lambda: module.job(*HEAD, PAVED)):
                 self.assertRaisesRegex(module.Unavailable, "^no library: .* No program: ", call)
             self.assertRaisesRegex(module.Unavailable, 'set SAGECRUET_REWRITER to "FOLDER/run --rewrite"', module.rewrite, STORED)
 
@@ -738,7 +738,7 @@ class WhatIsThere(unittest.TestCase):
                                                    "removed": 3})
             self.assertRaises(module.Unavailable, module.answer, SIZE, T)
             with self.machine("aarch64"):
-                words = "aarch64; here answer and answer_text work, .* by the program creditrun"
+                words = "aarch64; here answer, .* work, .* by the program creditrun"
                 self.assertRaisesRegex(module.Unavailable, words, module.reading, 0.5)
 
     def test_the_program_that_is_named_comes_first(self):
@@ -779,6 +779,46 @@ class WhatIsThere(unittest.TestCase):
             with self.subTest(run=run), self.repository(run=f"#!/bin/sh\n{run}\n") as (module, _):
                 words = f"gave no rewriting and ended with {words}; .* the terminal"
                 self.assertRaisesRegex(module.Unavailable, words, module.rewrite, STORED)
+
+    def test_the_writer_of_the_repository_writes(self):
+        for machine, before in (("x86_64", []), ("aarch64", sagecruet._EMULATOR)):
+            with self.repository() as (module, folder), self.machine(machine):
+                message = re.escape(f"the program is not built; `make -C examples/c entry` in {folder} builds it")
+                self.assertRaisesRegex(module.Unavailable, message, module.job, *HEAD, PAVED)
+                (folder / "examples" / "c").mkdir(parents=True)
+                (folder / "examples" / "c" / "entry").write_text("")
+                done = mock.Mock(returncode=0, stdout=SIZE.encode())
+                with mock.patch("subprocess.run", return_value=done) as run:
+                    self.assertEqual(module.job(*HEAD, PAVED), SIZE)
+                numbers = "1 0 0 39 2 70000 0 0 6 257".split()
+                self.assertEqual(run.call_args[0][0], before + [str(folder / "examples" / "c" / "entry")] + numbers)
+
+    def test_the_writer_that_is_named_comes_first(self):
+        with self.repository(SAGECRUET_WRITER="sh -c 'echo answer=14'") as (module, _):
+            self.assertRaisesRegex(module.Unavailable, "gave no job and ended with status 0", module.job, *HEAD, PAVED)
+            with mock.patch.dict(os.environ, SAGECRUET_WRITER="sh -c 'echo answer=14; exit 1'"):
+                self.assertRaisesRegex(module.Refused, "^refused 14: ", module.job, *HEAD, PAVED)
+            with mock.patch.dict(os.environ, SAGECRUET_WRITER="no-such-command"):
+                words = "SAGECRUET_WRITER names a command that is not there, .* 'no-such-command'"
+                self.assertRaisesRegex(module.Unavailable, words, module.job, *HEAD, PAVED)
+
+    def test_what_is_no_job_is_no_job(self):
+        for run, words in (
+            ("exit 2", "status 2"),
+            ("exit 1", "status 1"),
+            ("exit 0", "status 0"),
+            ("head -n 6 job", "status 0"),
+            ("head -c -1 job", "status 0"),
+            ("cat job; echo", "status 0"),
+            ("cat job; exit 1", "status 1"),
+            ("echo answer=1", "status 0"),
+            ("echo answer=13; exit 1", "status 1"),
+            ("cat job; kill -9 $$", "status -9"),
+        ):
+            with self.subTest(run=run), elsewhere([("job", SIZE), ("mine", f'#!/bin/sh\ncd "${{0%/*}}"\n{run}\n')]) as (module, folder):
+                with mock.patch.dict(os.environ, SAGECRUET_WRITER=f"'{folder}/mine'"):
+                    words = f"gave no job and ended with {words}; .* the terminal"
+                    self.assertRaisesRegex(module.Unavailable, words, module.job, *HEAD, PAVED)
 
     def test_a_refused_job_ends_with_1(self):
         with self.repository(run="#!/bin/sh\nprintf 'answer=10\\nline=0\\n'\nexit 1\n") as (module, _):
