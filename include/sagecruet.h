@@ -4,13 +4,13 @@
  * it. docs/C.md leads from there to a running program, and examples/c/example.c uses every function.
  *
  * Every function is proved to give its answer for every input. It keeps no state, takes no memory of its own and
- * changes nothing but the bytes of an answer text, or of a job that it rewrites. What the proof leaves to the caller is
- * what a C pointer cannot say. Each list is handed over as a pointer and a count:
+ * changes nothing but the bytes of a text that it writes, or of a job that it rewrites. What the proof leaves to the
+ * caller is what a C pointer cannot say. Each list is handed over as a pointer and a count:
  *
  *   - the pointer is not null, even where the count is 0;
  *   - it is aligned for its type;
  *   - it has that many elements behind it, and no other thread writes them during the call;
- *   - an answer text to be written overlaps no other list of the same call.
+ *   - a text to be written overlaps no other list of the same call.
  *
  * A job is a text of at most 4,096 bytes. These nine lines ask for the yearly nitrogen of a site of three sub-areas:
  *
@@ -67,6 +67,9 @@ extern "C" {
 /* The bytes that hold any answer text. */
 #define SAGECRUET_ROOM 161
 
+/* The bytes that hold any job text that sagecruet_job writes. */
+#define SAGECRUET_JOB_ROOM 837
+
 /* The bytes of the longest job text; a longer one is refused 1. */
 #define SAGECRUET_LONGEST_JOB 4096
 
@@ -78,7 +81,7 @@ extern "C" {
 #define SAGECRUET_MOST_RATES 8
 
 /* The numbers given back, in an answer text as `answer=N` and in the structs below as `answer`. docs/REFUSALS.md says
- * when each is given and what to do about it. 13 is told by the length 0 of an answer text. 16 and 17 are for site
+ * when each is given and what to do about it. Of an answer text, 13 is told by the length 0. 16 and 17 are for site
  * records, which no call of this header takes: none gives them. */
 enum sagecruet_number {
     SAGECRUET_GRANTED = 0,             /* The job is granted. */
@@ -142,6 +145,12 @@ struct sagecruet_value {
     uint64_t value;
 };
 
+/* A number given back, and the length of the text that was written: 0 beside a refusal. */
+struct sagecruet_written {
+    uint64_t answer;
+    size_t len;
+};
+
 /* Works a job out on the published tables, from the text of the job to the text of its answer.
  *
  * The answer text is written at the start of `text`, with no zero byte after it, and its length is returned; no other
@@ -179,6 +188,28 @@ size_t sagecruet_answer_on(const uint8_t *job, size_t job_len,
  * empty part at the end where a line is missing; an empty part at the start where the text is too long. A text that
  * is not refused 1 has an empty part at its end, one that is refused 2, 3 or 14 too: its line is found by its number. */
 struct sagecruet_part sagecruet_fault(const uint8_t *job, size_t job_len);
+
+/* Writes a job: the text that reads as the values which are given. A word is told by its code, its place in the list at
+ * the top of this header, counted from 0: a practice from 0 for trench to 8 for swale, a soil from 0 for A to 6 for -.
+ * `areas` has four numbers for each sub-area, the codes of its use, cover and soil and its area, and `areas_len` counts
+ * the numbers.
+ *
+ * The text is written at the start of `text`, with no zero byte after it; no other byte of `text` changes, and a refusal
+ * changes none. SAGECRUET_JOB_ROOM bytes are room enough for any job. Refusals, tried in this order:
+ *
+ *   1   the list ends inside a sub-area
+ *   14  there are more than 32 sub-areas
+ *   1   a nutrient, mode, task, use, cover or soil is a code with no word
+ *   2   an area is not from 1 to 1,000,000, or a soil does not go with its cover
+ *   3   the total area is above 1,000,000; 2 and 3 are tried at each sub-area before the next
+ *   1   there is no sub-area, the practice is a code with no word, or the rate or the amount has more than 14 digits
+ *   13  `text_len` is less than the text needs
+ *
+ * Whether the job is granted is not asked: one that sagecruet_answer refuses 6 to 10 is written like any other. */
+struct sagecruet_written sagecruet_job(uint64_t practice, uint64_t nutrient, uint64_t mode, uint64_t rate,
+                                       uint64_t task, uint64_t amount,
+                                       const uint64_t *areas, size_t areas_len,
+                                       uint8_t *text, size_t text_len);
 
 /* Rewrites a stored job in its place: C for each soil U; the length and every other byte stay. It is for jobs that were
  * stored while U counted as C for runoff too: rewritten, each gets the answer that it got then. A job that is refused 1,

@@ -13,12 +13,13 @@
 All numbers of a job and its answer are whole: areas in hundredths of an acre, depths in hundredths of an inch, rates in
 hundredths of an inch per hour, volumes in hundred-thousandths of a cubic foot, loads in ten-thousandths of a pound per
 year, percents in thousandths of a percent. from_acres, to_acres and their likes go from and to natural units, exactly.
-REFUSALS says what the numbers given back mean. The basis, a word of BASES, says how the percent beside it was found.
+REFUSALS says what the numbers given back mean; a job that cannot be written raises Refused with its number. The basis, a word
+of BASES, says how the percent beside it was found.
 
 The functions call the proved library, a shared object for x86-64 Linux. Where it cannot be loaded, whatever asks for a
 job on the published tables (answer, answer_text, curve, plot) goes by the program creditrun instead, rewrite goes by the
-program rewriterun, and the rest raises Unavailable, which says why and what to do. backend() says which answers a job: library
-or program. bindings/python/README.md says more.
+program rewriterun, job by the program entry, which calls the library, and the rest raises Unavailable, which says why and
+what to do. backend() says which answers a job: library or program. bindings/python/README.md says more.
 """
 
 import ctypes
@@ -64,13 +65,36 @@ REFUSALS = {
 # start: a depth below the first, 0 among them; held: a depth beyond the last; none: there is no percent.
 BASES = ("none", "printed", "between", "start", "held")
 
+# The words of a job, each list in the order of the codes, 0, 1, 2 and so on, that the library takes; docs/words.tsv has them too.
+WORDS = {
+    "practice": ("trench", "basin", "biofilter", "wetland", "isr", "sand", "wetpond", "drypond", "swale"),
+    "nutrient": ("P", "N"),
+    "mode": ("step", "mix"),
+    "task": ("load", "credit", "size"),
+    "use": ("com", "ind", "hdr", "mdr", "ldr", "hwy", "for", "open", "ag"),
+    "cover": ("imp", "per"),
+    "soil": ("A", "B", "C", "CD", "D", "U", "-"),
+}
+
 ROOM = 161  # enough for any answer text
+JOB_ROOM = 837  # enough for any job text that is written
 
 RATES = (17, 27, 52, 102, 241, 827)  # the rates of the tables of trench and basin; the other practices have none
 
 
 class Unavailable(RuntimeError):
     """Neither the library nor, where it would do, the program can be used. The words say why, and what to do."""
+
+
+class Refused(ValueError):
+    """What was asked for is refused, and there is no answer to say so. `answer` is the number, and the words are its own."""
+
+    def __init__(self, answer):
+        super().__init__(answer)
+        self.answer = answer
+
+    def __str__(self):
+        return f"refused {self.answer}: {REFUSALS[self.answer]}"
 
 
 class Sheet(NamedTuple):
@@ -99,13 +123,13 @@ def _whole(what, value, unit=None):
         _refuse_kind(what, expected, value)
 
 
-def _word(what, value):
-    """A word of a job. Which words there are is for the calculator to say; what would make another line or value is not."""
+def _code(kind, value, what=None):
+    """The code of a word of a job. A word that is not in its list has the code behind the last, which has no word: that there
+    is no such job is for the library to say."""
     if not isinstance(value, str):
-        _refuse_kind(what, "a word", value)
-    if re.search(r"[\s,=]", value):
-        raise ValueError(f"{what}: a word has no space, line break, comma or equals sign: {value!r}")
-    return value
+        _refuse_kind(what or kind, "a word", value)
+    words = WORDS[kind]
+    return words.index(value) if value in words else len(words)
 
 
 def _flag(what, value):
@@ -307,6 +331,10 @@ class _Percent(ctypes.Structure):
     _fields_ = [(name, ctypes.c_uint64) for name in ("answer", "percent", "basis", "list", "place")]
 
 
+class _Written(ctypes.Structure):
+    _fields_ = [("answer", ctypes.c_uint64), ("length", ctypes.c_size_t)]
+
+
 class _Value(ctypes.Structure):
     _fields_ = [("answer", ctypes.c_uint64), ("value", ctypes.c_uint64)]
 
@@ -317,10 +345,12 @@ def _loaded(place):
     built later is found later."""
     library = ctypes.CDLL(place)
     text = [ctypes.c_char_p, ctypes.c_size_t]
-    sheet = 3 * [ctypes.POINTER(ctypes.c_uint64), ctypes.c_size_t]
+    listed = [ctypes.POINTER(ctypes.c_uint64), ctypes.c_size_t]
+    sheet = 3 * listed
     for name, takes, gives in (
         ("answer", text + text, ctypes.c_size_t),
         ("answer_on", text + sheet + text, ctypes.c_size_t),
+        ("job", 6 * [ctypes.c_uint64] + listed + text, _Written),
         ("fault", text, _Part),
         ("rewrite", text, None),
         ("sheet", sheet, _Verdict),
@@ -330,6 +360,10 @@ def _loaded(place):
         function = getattr(library, "sagecruet_" + name)
         function.argtypes, function.restype = takes, gives
     return library
+
+
+_PROCESSORS = ("x86_64", "AMD64")  # those that the library is for, by the names that Python has for them
+_EMULATOR = "qemu-x86_64 -L /usr/x86_64-linux-gnu -E LD_LIBRARY_PATH=/usr/x86_64-linux-gnu/lib".split()  # see examples/c/Makefile
 
 
 def _library():
@@ -342,7 +376,7 @@ def _library():
             return _loaded(place)
         except (OSError, AttributeError) as error:
             why = f"the library cannot be loaded: {error}"
-    if machine not in ("x86_64", "AMD64"):
+    if machine not in _PROCESSORS:
         raise Unavailable(f"the library is for x86-64 and this processor is {machine}{_instead()}")
     raise Unavailable(f"{why}; `make shared` in the repository's folder, FOLDER, writes it, and SAGECRUET_LIBRARY says where it "
                       "is: FOLDER/target/staticlib/libsagecruet.so")
@@ -388,6 +422,20 @@ def _command(setting, named):
     return words
 
 
+def _writer():
+    """The command that writes a job from its numbers, or Unavailable with the reason: the C example entry, which calls the
+    library. It is built for x86-64 and runs under an emulator where the processor is another."""
+    named, repository = os.environ.get("SAGECRUET_WRITER", "").strip(), _repository()
+    if named:
+        return _command("SAGECRUET_WRITER", named)
+    if repository is None:
+        raise Unavailable("this module does not stand in the repository; SAGECRUET_WRITER says how examples/c/entry is started")
+    place = repository / "examples" / "c" / "entry"
+    if not place.is_file():
+        raise Unavailable(f"the program is not built; `make -C examples/c entry` in {repository} builds it, and the library first")
+    return ([] if platform.machine() in _PROCESSORS else _EMULATOR) + [str(place)]
+
+
 def _found(program="creditrun"):
     """("library", it), ("program", its command), or Unavailable with the reasons of both."""
     try:
@@ -395,7 +443,7 @@ def _found(program="creditrun"):
     except Unavailable as error:
         no_library = error
     try:
-        return "program", _program(program)
+        return "program", _writer() if program == "entry" else _program(program)
     except Unavailable as no_program:
         raise Unavailable(f"no library: {no_library}. No program: {no_program}.") from None
 
@@ -410,6 +458,9 @@ def backend():
 
 _ANSWER = re.compile((r"answer=0\nload=\d+\ndepth=\d+\ncredit=\d+\nbasis=(?:" + "|".join(BASES) + r")\nvolume=\d+\nremoved=\d+\n"
                       r"|answer=\d+\nline=\d+\n").encode())
+
+# What the program entry prints: with status 0 a job, with status 1 the number of a refusal.
+_WRITTEN = {0: re.compile(rb"practice=[a-z]+\n(?:[a-z]+=[\w,-]+\n){6,}"), 1: re.compile(rb"answer=(?:1|2|3|14)\n")}
 
 
 def _by_program(command, job, what, fits):
@@ -429,9 +480,10 @@ def _by_program(command, job, what, fits):
 # ---- Jobs
 
 def job(practice, nutrient, mode, rate, task, amount, areas):
-    """A job text, from its values and a list of (use, cover, soil, area). It judges the kinds of the values alone: a word or
-    a number that no job may have is refused by the calculator, with its number and line. The soil U means not known, and
-    counts as C for loads and as D for runoff; where C is meant, C is to be written.
+    """The text of a job, from its values and a list of (use, cover, soil, area). The library writes it: what is written reads
+    as these values. A word or a number that no job may have raises Refused, with the number in its `answer`. Whether the job
+    is granted, answer() says. The soil U means not known, and counts as C for loads and as D for runoff; where C is meant, C is
+    to be written.
 
     >>> print(job("basin", "N", "step", 0, "load", 0, [("ind", "imp", "-", 1013)]), end="")
     practice=basin
@@ -442,27 +494,39 @@ def job(practice, nutrient, mode, rate, task, amount, areas):
     amount=0
     area=ind,imp,-,1013
     """
-    lines = [
-        f"practice={_word('practice', practice)}",
-        f"nutrient={_word('nutrient', nutrient)}",
-        f"mode={_word('mode', mode)}",
-        f"rate={_whole('rate', rate, 'inches_per_hour')}",
-        f"task={_word('task', task)}",
-        f"amount={_whole('amount', amount, _AMOUNTS.get(task))}",
-    ]
+    values = [_code("practice", practice), _code("nutrient", nutrient), _code("mode", mode),
+              _unsigned("rate", rate, "inches_per_hour"), _code("task", task), _unsigned("amount", amount, _AMOUNTS.get(task))]
+    parts = []
     for place, area in enumerate(_several("areas", "a list of (use, cover, soil, area)", areas)):
         what, expected = f"areas[{place}]", "(use, cover, soil, area)"
         row = _several(what, expected, area)
         if len(row) != 4:
             _refuse_kind(what, expected, area)
-        words = [_word(what, word) for word in row[:3]]
-        lines.append("area=" + ",".join(words + [str(_whole(what, row[3], "acres"))]))
-    return "".join(line + "\n" for line in lines)
+        parts += [_code(kind, word, what) for kind, word in zip(("use", "cover", "soil"), row)]
+        parts.append(_unsigned(what, row[3], "acres"))
+    which, found = _found("entry")
+    if which == "program":
+        command = found + [str(number) for number in values + parts]
+        fits = lambda done: done.returncode in _WRITTEN and _WRITTEN[done.returncode].fullmatch(done.stdout)
+        text = _by_program(command, b"", "job", fits).decode()
+        if text.startswith("answer="):
+            raise Refused(int(text[len("answer="):]))
+        return text
+    text = ctypes.create_string_buffer(JOB_ROOM)
+    written = found.sagecruet_job(*values, *_list(parts), text, JOB_ROOM)
+    if written.answer:
+        raise Refused(written.answer)
+    return text.raw[:written.length].decode()
+
+
+def _list(values):
+    """A list of numbers as the library takes it: a pointer and a count. The memory behind it has one element more, so that
+    no pointer is null."""
+    return (ctypes.c_uint64 * (len(values) + 1))(*values), len(values)
 
 
 def _lists(sheet):
-    """A sheet as the library takes it: for each list a pointer and a count. The memory behind a list has one element more,
-    so that no pointer is null."""
+    """The lists of a sheet as the library takes them."""
     expected = "three lists: depths, rates and percents"
     lists = _several("sheet", expected, sheet)
     if len(lists) != 3:
@@ -470,8 +534,7 @@ def _lists(sheet):
     arguments = []
     for name, unit, values in zip(Sheet._fields, ("inches", "inches_per_hour", "percent"), lists):
         what = f"sheet: {name}"
-        values = [_unsigned(what, value, unit) for value in _several(what, "a list of whole numbers", values)]
-        arguments += [(ctypes.c_uint64 * (len(values) + 1))(*values), len(values)]
+        arguments += _list([_unsigned(what, value, unit) for value in _several(what, "a list of whole numbers", values)])
     return arguments
 
 
@@ -597,8 +660,8 @@ def reading(value, millimetres=False):
 
 def curve(practice, nutrient, rate=0, mode="step", depths=range(0, 201, 10)):
     """Points (depth, percent) of a published curve, in whole numbers, at the depths that are asked for, 0 to 200. Each point is
-    the answer of a credit job: the practice has the volume of that depth on a hundredth of an acre of pavement. By the program
-    a point costs a start of it.
+    the answer of a credit job: the practice has the volume of that depth on a hundredth of an acre of pavement. What the
+    calculator refuses raises Refused. By the programs a point costs a start of each.
 
     >>> curve("basin", "P", rate=52, depths=[0, 10, 30])
     [(0, 0), (10, 38000), (30, 66500)]
@@ -608,19 +671,11 @@ def curve(practice, nutrient, rate=0, mode="step", depths=range(0, 201, 10)):
         depth = _whole("depth", depth, "inches")
         if not 0 <= depth <= 200:
             raise ValueError(f"depth: not from 0 to 200 hundredths of an inch: {depth!r}")
-        asked = job(practice, nutrient, mode, rate, "credit", 121 * 300 * depth, [("com", "imp", "-", 1)])
-        given = answer(asked)
+        given = answer(job(practice, nutrient, mode, rate, "credit", 121 * 300 * depth, [("com", "imp", "-", 1)]))
         if given["answer"]:
-            raise ValueError(_refusal(asked, given))
+            raise Refused(given["answer"])
         points.append((depth, given["credit"]))
     return points
-
-
-def _refusal(asked, given):
-    """A refusal in words, with the line of the job that it is about, if any."""
-    line = given["line"]
-    where = f", line {line} ({asked.splitlines()[line - 1]})" if line else ""
-    return f"refused {given['answer']}{where}: {REFUSALS[given['answer']]}"
 
 
 def plot(practice, nutrient, rates=None, mode="step", axes=None):

@@ -42,6 +42,19 @@ static void show_basis(const char *text)
 /* The words of enum sagecruet_basis, by their numbers. */
 static const char *const bases[] = {"none", "printed", "between", "start", "held"};
 
+/* The codes of the words that are used here: their places in the lists of sagecruet.h, from 0. */
+enum { BASIN = 1, P = 0, N = 1, STEP = 0, SIZE = 2, COM = 0, IMP = 0, PER = 1, ON_B = 1, ON_C = 2, ON_U = 5, NO_SOIL = 6 };
+
+/* Writes a job for the size of a basin in mode step, with a zero byte behind it, or says that there is none. */
+static void write_job(char *job, uint64_t nutrient, uint64_t rate, uint64_t target, const uint64_t *areas, size_t areas_len)
+{
+    struct sagecruet_written written = sagecruet_job(BASIN, nutrient, STEP, rate, SIZE, target, areas, areas_len,
+                                                     (uint8_t *)job, SAGECRUET_JOB_ROOM);
+    job[written.len] = '\0';
+    if (written.answer != SAGECRUET_GRANTED)
+        printf("  it is not written: refused %" PRIu64 "\n", written.answer);
+}
+
 /* Works a job out, on the sheet above or on the published tables, and prints its answer with units. */
 static void answer(const char *job, bool on_sheet)
 {
@@ -120,14 +133,26 @@ static void rate(const char *name, struct sagecruet_value found)
 
 int main(void)
 {
-    puts("A basin for 70 percent of the phosphorus of 2.57 paved acres, by the published tables");
-    answer("practice=basin\nnutrient=P\nmode=step\nrate=39\ntask=size\namount=70000\narea=com,imp,-,257\n", false);
+    /* Use, cover, soil and area of each sub-area. */
+    static const uint64_t paved[] = {COM, IMP, NO_SOIL, 257};
+    static const uint64_t unfit[] = {COM, IMP, ON_C, 257};
+    static const uint64_t unknown[] = {COM, IMP, NO_SOIL, 257, COM, PER, ON_U, 300};
+    static const uint64_t several[] = {COM, IMP, NO_SOIL, 400, COM, PER, ON_C, 200, COM, PER, ON_B, 150};
+    char job[SAGECRUET_JOB_ROOM + 1];
+
+    puts("A job for a basin that removes 70 percent of the phosphorus of 2.57 paved acres");
+    write_job(job, P, 39, 70000, paved, COUNT(paved));
+    fputs(job, stdout);
+    puts("Its answer by the published tables");
+    answer(job, false);
     puts("The same with a slip");
-    answer("practice=basin\nnutrient=P\nmode=stepp\nrate=39\ntask=size\namount=70000\narea=com,imp,-,257\n", false);
-    puts("The same with 3.00 pervious acres of a soil that is not known, stored when it counted as C");
-    char stored[] = "practice=basin\nnutrient=P\nmode=step\nrate=39\ntask=size\namount=70000\n"
-                    "area=com,imp,-,257\narea=com,per,U,300\n";
-    rewritten(stored);
+    memcpy(strstr(job, "step"), "stop", 4);
+    answer(job, false);
+    puts("A job with a soil under the pavement");
+    write_job(job, P, 39, 70000, unfit, COUNT(unfit));
+    puts("The first with 3.00 pervious acres of a soil that is not known, stored when it counted as C");
+    write_job(job, P, 39, 70000, unknown, COUNT(unknown));
+    rewritten(job);
 
     puts("A sheet of our own");
     test();
@@ -137,10 +162,11 @@ int main(void)
     percent("2.00 inches at 0.50 in/hr", false, 50, 200);
     percent("0.40 inches at 0.24 in/hr", false, 24, 40);
     puts("A practice for 55.001 percent of the nitrogen of 7.50 acres, by that sheet");
-    answer("practice=basin\nnutrient=N\nmode=step\nrate=50\ntask=size\namount=55001\n"
-           "area=com,imp,-,400\narea=com,per,C,200\narea=com,per,B,150\n", true);
+    write_job(job, N, 50, 55001, several, COUNT(several));
+    answer(job, true);
     puts("The same for 70.001 percent of the paved 4.00 acres");
-    answer("practice=basin\nnutrient=N\nmode=step\nrate=50\ntask=size\namount=70001\narea=com,imp,-,400\n", true);
+    write_job(job, N, 50, 70001, several, 4); /* its first sub-area */
+    answer(job, true);
     puts("The sheet with a percent that falls");
     percents[4] = 35000;
     test();

@@ -11,6 +11,7 @@ import decimal
 import doctest
 import importlib.util
 import os
+import pickle
 import re
 import shutil
 import sys
@@ -32,8 +33,25 @@ IN_REPOSITORY = (ROOT / "crates.txt").is_file()
 # Sheet T of the rules.
 T = sagecruet.Sheet([20, 60, 100], [25, 75], [20000, 50000, 70000, 40000, 65000, 80000])
 PAVED = [("com", "imp", "-", 257)]
-SIZE = sagecruet.job("basin", "P", "step", 39, "size", 70000, PAVED)
-STORED = sagecruet.job("basin", "P", "step", 39, "size", 70000, PAVED + [("com", "per", "U", 300)])
+HEAD = ("basin", "P", "step", 39, "size", 70000)
+
+
+def text_of(*values):
+    """The text of a job, put together here: what the library has to write, and what is to be answered where it is not there."""
+    keys = ("practice", "nutrient", "mode", "rate", "task", "amount")
+    lines = [f"{key}={value}" for key, value in zip(keys, values)]
+    return "\n".join(lines + ["area=" + ",".join(map(str, area)) for area in values[6]]) + "\n"
+
+
+SIZE = text_of(*HEAD, PAVED)
+STORED = text_of(*HEAD, PAVED + [("com", "per", "U", 300)])
+
+
+def writes():
+    try:
+        return bool(sagecruet.job(*HEAD, PAVED))
+    except sagecruet.Unavailable:
+        return False
 
 
 def rewrites():
@@ -45,6 +63,7 @@ def rewrites():
 
 needs_answers = unittest.skipIf(sagecruet.backend() is None, "neither the library nor the program is there")
 needs_rewriting = unittest.skipIf(not rewrites(), "neither the library nor the program rewriterun is there")
+needs_writing = unittest.skipIf(not writes(), "neither the library nor the program entry is there")
 needs_library = unittest.skipIf(sagecruet.backend() != "library", "the library cannot be loaded here")
 needs_repository = unittest.skipIf(not IN_REPOSITORY, "the module does not stand in the repository")
 
@@ -56,6 +75,8 @@ def examples_need(test):
         raise unittest.SkipTest("the library cannot be loaded here")
     if name in ("sagecruet", "answer", "curve", "md") and sagecruet.backend() is None:
         raise unittest.SkipTest("neither the library nor the program is there")
+    if name in ("sagecruet", "job", "rewrite", "curve", "md") and not writes():
+        raise unittest.SkipTest("neither the library nor the program entry is there")
     if name in ("rewrite", "md") and not rewrites():
         raise unittest.SkipTest("neither the library nor the program rewriterun is there")
 
@@ -164,10 +185,114 @@ class Units(unittest.TestCase):
 
 
 class JobTexts(unittest.TestCase):
+    @needs_writing
     @needs_repository
     def test_the_sample_job(self):
         areas = [("ind", "imp", "-", 1013), ["com", "per", "C", 185], ("for", "per", "C", 89)]
         self.assertEqual(sagecruet.job("basin", "N", "step", 0, "load", 0, areas), (ROOT / "jobs" / "sample.job").read_text())
+
+    @needs_writing
+    @needs_repository
+    def test_every_job_of_the_folder_that_reads_is_written_back(self):
+        for path in sorted((ROOT / "jobs").glob("*.job")):
+            values = [line.split("=")[1] for line in path.read_text().splitlines()]
+            rows = [value.split(",") for value in values[6:]]
+            head = (*values[:3], int(values[3]), values[4], int(values[5]))
+            with self.subTest(job=path.name):
+                if path.name == "refused-1.job":
+                    self.refused(1, *head, [(*row[:3], int(row[3])) for row in rows])
+                else:
+                    self.assertEqual(sagecruet.job(*head, [(*row[:3], int(row[3])) for row in rows]), path.read_text())
+
+    @needs_writing
+    def test_each_word_is_written(self):
+        for place, kind in ((0, "practice"), (1, "nutrient"), (2, "mode"), (4, "task")):
+            for word in sagecruet.WORDS[kind]:
+                values = (*HEAD[:place], word, *HEAD[place + 1:], PAVED)
+                self.assertEqual(sagecruet.job(*values), text_of(*values))
+        areas = [(use, *rest) for use in sagecruet.WORDS["use"] for rest in (("imp", "-", 10), ("per", "A", 9))]
+        areas += [("com", "per", soil, 100) for soil in sagecruet.WORDS["soil"] if soil != "-"]
+        self.assertEqual(sagecruet.job(*HEAD, areas), text_of(*HEAD, areas))
+
+    @needs_writing
+    def test_the_longest_and_the_shortest(self):
+        # 94 bytes of the first six lines, and 24 and 23 of an area's line; 13, 11, 9, 7, 10, 9 and 16 bytes.
+        longest = ("biofilter", "P", "step", 10**14 - 1, "credit", 10**14 - 1,
+                   7 * [("open", "per", "CD", 100000)] + 25 * [("open", "per", "CD", 10000)])
+        shortest = ("isr", "P", "mix", 0, "load", 0, [("ag", "imp", "-", 1)])
+        for values, length in ((longest, 94 + 7 * 24 + 25 * 23), (shortest, 75)):
+            self.assertEqual(sagecruet.job(*values), text_of(*values))
+            self.assertEqual(len(sagecruet.job(*values)), length)
+        self.assertEqual(sagecruet.JOB_ROOM, 94 + 7 * 24 + 25 * 23)
+
+    @needs_writing
+    def test_a_job_that_is_refused_otherwise_is_written(self):
+        for values in (
+            ("basin", "P", "step", 20000, "size", 70000, PAVED),  # 6
+            ("basin", "P", "step", 0, "size", 70000, PAVED),  # 7
+            ("basin", "P", "step", 39, "size", 70000, [("com", "per", "C", 185)]),  # 8
+            ("basin", "P", "step", 39, "size", 10**14 - 1, PAVED),  # 9
+            ("drypond", "N", "step", 0, "size", 30000, PAVED),  # 10
+        ):
+            self.assertEqual(sagecruet.job(*values), text_of(*values))
+
+    def refused(self, number, *values):
+        with self.assertRaises(sagecruet.Refused) as caught:
+            sagecruet.job(*values)
+        self.assertEqual(caught.exception.answer, number)
+        self.assertEqual(str(caught.exception), f"refused {number}: {sagecruet.REFUSALS[number]}")
+
+    @needs_writing
+    def test_refusals(self):
+        half, none = ("com", "imp", "-", 600000), ("com", "imp", "-", 0)
+        for number, values in (
+            (14, (*HEAD, 33 * PAVED)),
+            (14, ("Basin", "n", "mixed", 10**14, "sizes", 10**14, 32 * PAVED + [("roof", "none", "X", 0)])),
+            (1, ("basin", "n", *HEAD[2:], [none])),
+            (1, ("basin", "P", "mixed", *HEAD[3:], [half, half])),
+            (1, (*HEAD[:4], "sizes", 70000, PAVED)),
+            (1, (*HEAD, PAVED + [none, ("roof", "imp", "-", 1)])),
+            (1, (*HEAD, PAVED + [half, half, ("com", "paved", "-", 1)])),
+            (1, (*HEAD, PAVED + [("com", "per", "c", 1)])),
+            (2, (*HEAD, [none])),
+            (2, (*HEAD, [("com", "imp", "-", 1000001)])),
+            (2, (*HEAD, [("com", "imp", "-", 2**64 - 1)])),
+            (2, (*HEAD, PAVED + [("com", "imp", "C", 1)])),
+            (2, (*HEAD, PAVED + [("com", "per", "-", 1)])),
+            (2, (*HEAD, [half, ("com", "imp", "C", 600000)])),
+            (2, (*HEAD, [none, half, half])),
+            (3, (*HEAD, [half, half, none])),
+            (3, ("Basin", *HEAD[1:], [half, half])),
+            (2, (*HEAD[:5], 10**14, [none])),
+            (1, (*HEAD, [])),
+            (1, ("Basin", *HEAD[1:], PAVED)),
+            (1, (*HEAD[:3], 10**14, "size", 70000, PAVED)),
+            (1, (*HEAD[:5], 2**64 - 1, PAVED)),
+        ):
+            with self.subTest(number=number, values=values):
+                self.refused(number, *values)
+
+    def test_a_refusal_is_a_value_error_with_its_number(self):
+        refusal = pickle.loads(pickle.dumps(sagecruet.Refused(3)))
+        self.assertIsInstance(refusal, ValueError)
+        self.assertEqual((refusal.answer, str(refusal)), (3, "refused 3: The site is too large."))
+
+    def test_a_number_that_the_library_cannot_be_handed(self):
+        for name, values in (
+            ("rate", (*HEAD[:3], -1, "size", 70000, PAVED)), ("rate", (*HEAD[:3], 2**64, "size", 70000, PAVED)),
+            ("amount", (*HEAD[:5], -1, PAVED)), ("amount", (*HEAD[:5], 10**30, PAVED)),
+            (r"areas\[1\]", (*HEAD, PAVED + [("com", "imp", "-", -1)])), (r"areas\[0\]", (*HEAD, [("com", "imp", "-", 2**64)])),
+        ):
+            with self.subTest(values=values):
+                self.assertRaisesRegex(ValueError, rf"^{name}: not from 0 to 2\*\*64 - 1: ", sagecruet.job, *values)
+
+    @needs_repository
+    def test_the_words_are_those_of_the_table_and_the_room_that_of_the_header(self):
+        rows = dict(line.split("\t", 1) for line in (ROOT / "docs" / "words.tsv").read_text().splitlines() if "\t" in line)
+        for kind, words in sagecruet.WORDS.items():
+            told = rows[kind if kind in rows else kind.upper()].replace(f"{kind}=", "")
+            self.assertEqual(tuple(re.split(", | or ", told)), words)
+        self.assertIn(f"#define SAGECRUET_JOB_ROOM {sagecruet.JOB_ROOM}\n", (ROOT / "include" / "sagecruet.h").read_text())
 
     def test_wrong_kinds(self):
         good = ["basin", "P", "step", 39, "size", 70000, PAVED]
@@ -198,26 +323,22 @@ class JobTexts(unittest.TestCase):
             with self.subTest(words=words), self.assertRaisesRegex(TypeError, f"^{words}$"):
                 sagecruet.job("basin", "P", "step", rate, task, amount, [("com", "imp", "-", area)])
 
+    @needs_writing
     def test_rows_of_any_sequence(self):
         for row in (("com", "imp", "-", 257), ["com", "imp", "-", 257], iter(("com", "imp", "-", 257))):
             self.assertEqual(sagecruet.job("basin", "P", "step", 39, "size", 70000, iter([row])), SIZE)
         self.assertRaisesRegex(TypeError, r"^areas\[0\]: expected \(use", sagecruet.job, "basin", "P", "step", 39, "size", 70000,
                                [{"com", "imp", "-", 257}])
 
+    @needs_writing
     def test_no_word_makes_a_line_or_a_value(self):
-        good = ["basin", "P", "step", 39, "size", 70000, PAVED]
+        good = [*HEAD, PAVED]
         for place, wrong in (
             (0, "basin\nnutrient=P"), (1, "P\r"), (2, "step "), (4, "size\x0bamount"), (0, "basin=trench"), (0, "basin\u2028"),
             (6, [("com", "imp", "-,257\narea=com,imp,-", 257)]), (6, [("com,imp", "-", "1", 257)]),
         ):
-            with self.subTest(wrong=wrong), self.assertRaisesRegex(ValueError, "a word has no"):
-                sagecruet.job(*good[:place], wrong, *good[place + 1:])
-
-    @needs_answers
-    def test_words_and_numbers_that_no_job_has_are_for_the_calculator(self):
-        for practice, rate, areas, line in (("Basin", 39, PAVED, 1), ("basin", -1, PAVED, 4), ("basin", 39, [], 7)):
-            text = sagecruet.job(practice, "P", "step", rate, "size", 70000, areas)
-            self.assertEqual(sagecruet.answer(text), {"answer": 1, "line": line})
+            with self.subTest(wrong=wrong):
+                self.refused(1, *good[:place], wrong, *good[place + 1:])
 
 
 class Answers(unittest.TestCase):
@@ -251,10 +372,10 @@ class Answers(unittest.TestCase):
             ("mix", 39, 200, "between"), ("mix", 10000, 40, "printed"),
         ):
             with self.subTest(mode=mode, rate=rate, depth=depth):
-                job = sagecruet.job("basin", "P", mode, rate, "credit", 121 * 300 * 100 * depth, [("com", "imp", "-", 100)])
+                job = text_of("basin", "P", mode, rate, "credit", 121 * 300 * 100 * depth, [("com", "imp", "-", 100)])
                 given = sagecruet.answer(job)
                 self.assertEqual((given["depth"], given["basis"]), (depth, basis))
-        load = sagecruet.job("basin", "P", "step", 39, "load", 0, PAVED)
+        load = text_of("basin", "P", "step", 39, "load", 0, PAVED)
         self.assertEqual(sagecruet.answer(load)["basis"], "none")
         self.assertEqual(sagecruet.answer(SIZE.replace("70000", "0"))["basis"], "start")
 
@@ -311,8 +432,8 @@ class Rewriting(unittest.TestCase):
         soils = [("hwy", "per", soil, 1) for soil in ("A", "B", "C", "CD", "D", "U")]
         for text in (
             STORED,
-            sagecruet.job("basin", "N", "step", 0, "load", 0, PAVED + soils + [("com", "per", "U", 300)]),
-            sagecruet.job("basin", "P", "step", 39, "size", 70000, 32 * [("ag", "per", "U", 1)]),  # refused 8
+            text_of("basin", "N", "step", 0, "load", 0, PAVED + soils + [("com", "per", "U", 300)]),
+            text_of("basin", "P", "step", 39, "size", 70000, 32 * [("ag", "per", "U", 1)]),  # refused 8
             STORED.replace("rate=39", "rate=1"),  # refused 7
             STORED.replace("70000", "100001"),  # refused 9
         ):
@@ -373,13 +494,13 @@ class WithTheLibrary(unittest.TestCase):
     @needs_library
     def test_a_job_on_a_lent_sheet(self):
         areas = [("com", "imp", "-", 400), ("com", "per", "C", 200), ("open", "per", "B", 150)]
-        given = sagecruet.answer(sagecruet.job("swale", "P", "step", 50, "size", 55001, areas), T)
+        given = sagecruet.answer(text_of("swale", "P", "step", 50, "size", 55001, areas), T)
         self.assertEqual((given["answer"], given["depth"], given["credit"], given["volume"]), (0, 71, 55500, 1100343750))
         self.assertEqual(list(given), ["answer", "load", "depth", "credit", "basis", "volume", "removed"])
         self.assertEqual(given["basis"], "between")
-        given = sagecruet.answer(sagecruet.job("swale", "P", "step", 50, "credit", 10**13, areas), T)
+        given = sagecruet.answer(text_of("swale", "P", "step", 50, "credit", 10**13, areas), T)
         self.assertEqual((given["depth"], given["credit"], given["basis"]), (200, 70000, "held"))
-        given = sagecruet.answer(sagecruet.job("swale", "P", "step", 50, "credit", 1100343749, areas), T)
+        given = sagecruet.answer(text_of("swale", "P", "step", 50, "credit", 1100343749, areas), T)
         self.assertEqual((given["answer"], given["depth"], given["credit"]), (0, 70, 55000))
         self.assertIsNone(sagecruet.answer_text(SIZE, T, room=3))
 
@@ -426,6 +547,7 @@ class WithTheLibrary(unittest.TestCase):
 
 
 class Curves(unittest.TestCase):
+    @needs_writing
     @needs_answers
     def test_printed_points(self):
         # Tables 3-14 and 3-19 of document 001, in percent.
@@ -437,23 +559,25 @@ class Curves(unittest.TestCase):
             points = sagecruet.curve(practice, nutrient, rate, depths=depths)
             self.assertEqual(points, [(depth, 1000 * percent) for depth, percent in zip(depths, printed)])
 
+    @needs_writing
     @needs_answers
     def test_points_between(self):
         # 38 and 56 at 0.10 and 0.20 in; between 0.27 and 0.52 in/hr at 0.10 in, 37 + 12/25 of 1.
         self.assertEqual(sagecruet.curve("basin", "P", 52, depths=[0, 5, 11]), [(0, 0), (5, 19000), (11, 39800)])
         self.assertEqual(sagecruet.curve("basin", "P", 39, mode="mix", depths=[10]), [(10, 37480)])
 
+    @needs_writing
     @needs_answers
     def test_by_itself_a_curve_has_21_points(self):
         points = sagecruet.curve("swale", "N")
         self.assertEqual((len(points), points[0], points[-1]), (21, (0, 0), (200, 23000)))
 
+    @needs_writing
     @needs_answers
     def test_a_refused_curve_says_so(self):
         self.assertRaisesRegex(ValueError, "refused 7: The soil is too slow for the practice.", sagecruet.curve, "trench", "P")
         self.assertRaisesRegex(ValueError, "refused 6: The rate is out of range.", sagecruet.curve, "sand", "P", 17)
-        words = r"^refused 1, line 1 \(practice=bas\): The job cannot be read.$"
-        self.assertRaisesRegex(ValueError, words, sagecruet.curve, "bas", "P", 52)
+        self.assertRaisesRegex(sagecruet.Refused, "^refused 1: The job cannot be read.$", sagecruet.curve, "bas", "P", 52)
 
     def test_wrong_depths(self):
         self.assertRaisesRegex(ValueError, "depth: not from 0 to 200", sagecruet.curve, "sand", "P", depths=[201])
@@ -472,6 +596,7 @@ class Curves(unittest.TestCase):
         with mock.patch.dict(sys.modules, {"matplotlib": None}):
             self.assertRaisesRegex(ImportError, "plot needs matplotlib .*docs/curves", sagecruet.plot, "wetland", "N")
 
+    @needs_writing
     @needs_answers
     def test_a_plot_without_rates_takes_those_of_the_tables(self):
         there = mock.MagicMock()
@@ -484,17 +609,19 @@ class Curves(unittest.TestCase):
         self.assertEqual(there.axes.plot.call_count, 7)
         self.assertEqual(there.axes.set.call_args[1]["title"], "swale, N")
 
+    @needs_writing
     @needs_answers
     def test_a_plot_that_is_refused_makes_no_figure(self):
         there = mock.MagicMock()
         with mock.patch.dict(sys.modules, {"matplotlib": there, "matplotlib.pyplot": there.pyplot}):
-            self.assertRaisesRegex(ValueError, "^refused 1, line 1 ", sagecruet.plot, "bas", "P")
+            self.assertRaisesRegex(ValueError, "^refused 1: ", sagecruet.plot, "bas", "P")
             self.assertRaisesRegex(ValueError, "^refused 6: ", sagecruet.plot, "sand", "P", rates=[0, 17])
             self.assertRaisesRegex(TypeError, "^rate: expected a whole", sagecruet.plot, "basin", "P", rates=[0.52])
             self.assertRaisesRegex(TypeError, "^rates: expected a list", sagecruet.plot, "basin", "P", rates=52)
             self.assertRaisesRegex(ValueError, "^rates: expected one at least", sagecruet.plot, "basin", "P", rates=[])
         there.pyplot.subplots.assert_not_called()
 
+    @needs_writing
     @needs_answers
     @unittest.skipIf(importlib.util.find_spec("matplotlib") is None, "matplotlib is not installed")
     def test_a_plot(self):
@@ -585,7 +712,7 @@ class WhatIsThere(unittest.TestCase):
                 with self.subTest(call=number), self.machine("aarch64"):
                     self.assertRaisesRegex(module.Unavailable, "is for x86-64 and this processor is aarch64", call)
             for call in (lambda: module.answer(SIZE), lambda: module.answer_text(SIZE), lambda: module.curve("sand", "P"),
-                         lambda: module.rewrite(STORED)):
+                         lambda: module.rewrite(STORED), lambda: module.job(*HEAD, PAVED)):
                 self.assertRaisesRegex(module.Unavailable, "^no library: .* No program: ", call)
             self.assertRaisesRegex(module.Unavailable, 'set SAGECRUET_REWRITER to "FOLDER/run --rewrite"', module.rewrite, STORED)
 
@@ -652,6 +779,46 @@ class WhatIsThere(unittest.TestCase):
             with self.subTest(run=run), self.repository(run=f"#!/bin/sh\n{run}\n") as (module, _):
                 words = f"gave no rewriting and ended with {words}; .* the terminal"
                 self.assertRaisesRegex(module.Unavailable, words, module.rewrite, STORED)
+
+    def test_the_writer_of_the_repository_writes(self):
+        for machine, before in (("x86_64", []), ("aarch64", sagecruet._EMULATOR)):
+            with self.repository() as (module, folder), self.machine(machine):
+                message = re.escape(f"the program is not built; `make -C examples/c entry` in {folder} builds it")
+                self.assertRaisesRegex(module.Unavailable, message, module.job, *HEAD, PAVED)
+                (folder / "examples" / "c").mkdir(parents=True)
+                (folder / "examples" / "c" / "entry").write_text("")
+                done = mock.Mock(returncode=0, stdout=SIZE.encode())
+                with mock.patch("subprocess.run", return_value=done) as run:
+                    self.assertEqual(module.job(*HEAD, PAVED), SIZE)
+                numbers = "1 0 0 39 2 70000 0 0 6 257".split()
+                self.assertEqual(run.call_args[0][0], before + [str(folder / "examples" / "c" / "entry")] + numbers)
+
+    def test_the_writer_that_is_named_comes_first(self):
+        with self.repository(SAGECRUET_WRITER="sh -c 'echo answer=14'") as (module, _):
+            self.assertRaisesRegex(module.Unavailable, "gave no job and ended with status 0", module.job, *HEAD, PAVED)
+            with mock.patch.dict(os.environ, SAGECRUET_WRITER="sh -c 'echo answer=14; exit 1'"):
+                self.assertRaisesRegex(module.Refused, "^refused 14: ", module.job, *HEAD, PAVED)
+            with mock.patch.dict(os.environ, SAGECRUET_WRITER="no-such-command"):
+                words = "SAGECRUET_WRITER names a command that is not there, .* 'no-such-command'"
+                self.assertRaisesRegex(module.Unavailable, words, module.job, *HEAD, PAVED)
+
+    def test_what_is_no_job_is_no_job(self):
+        for run, words in (
+            ("exit 2", "status 2"),
+            ("exit 1", "status 1"),
+            ("exit 0", "status 0"),
+            ("head -n 6 job", "status 0"),
+            ("head -c -1 job", "status 0"),
+            ("cat job; echo", "status 0"),
+            ("cat job; exit 1", "status 1"),
+            ("echo answer=1", "status 0"),
+            ("echo answer=13; exit 1", "status 1"),
+            ("cat job; kill -9 $$", "status -9"),
+        ):
+            with self.subTest(run=run), elsewhere([("job", SIZE), ("mine", f'#!/bin/sh\ncd "${{0%/*}}"\n{run}\n')]) as (module, folder):
+                with mock.patch.dict(os.environ, SAGECRUET_WRITER=f"'{folder}/mine'"):
+                    words = f"gave no job and ended with {words}; .* the terminal"
+                    self.assertRaisesRegex(module.Unavailable, words, module.job, *HEAD, PAVED)
 
     def test_a_refused_job_ends_with_1(self):
         with self.repository(run="#!/bin/sh\nprintf 'answer=10\\nline=0\\n'\nexit 1\n") as (module, _):
