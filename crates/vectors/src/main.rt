@@ -1,10 +1,12 @@
 // Rules, "Numbers to hold on to" and "Numbers of sub-areas": runs the numbers that are told there, volumes on a soil that is not
-// known, a run of adds and removals and every entry of the published tables through the library, and prints a line for each. The
-// stored output was made from document 001 and the rules without the library, and tools/expected.py says what each line holds.
+// known, a run of adds and removals, every entry of the published tables and the writing of jobs through the library, and prints what
+// each gives. The stored output was made from document 001 and the rules without the library, and tools/expected.py says what each line holds.
 use credit::CreditAnswer;
 use credit::Wanted;
 use curve::Mode;
 use curve::PercentAnswer;
+use job::Job;
+use job::Task;
 use libc::STDOUT_FILENO;
 use loads::LoadAnswer;
 use probe::RateAnswer;
@@ -27,6 +29,7 @@ use units::Percent;
 use units::Rate;
 use units::Volume;
 use volume::VolumeAnswer;
+use writing::Written;
 ghost use Rattle.published.specs.Inner.{Standing};
 
 // A step of the run: an area is added, a number is removed, or another count or counter is put into the record.
@@ -541,6 +544,91 @@ fn points() {
     }
 }
 
+// A site of seven sub-areas of a land use: pervious on each soil, and impervious.
+fn every_ground(land: LandUse) -> Site {
+    let a = with(site::empty(), land, Cover::Per, Soil::A, 1);
+    let b = with(a, land, Cover::Per, Soil::B, 20);
+    let c = with(b, land, Cover::Per, Soil::C, 300);
+    let cd = with(c, land, Cover::Per, Soil::CD, 4_000);
+    let d = with(cd, land, Cover::Per, Soil::D, 50_000);
+    let u = with(d, land, Cover::Per, Soil::U, 600_000);
+    with(u, land, Cover::Imp, Soil::NoSoil, 345_679)
+}
+
+// A job written with such a site: the answer, the length, and the text itself.
+fn say_written(job: Job, land: LandUse) {
+    let mut text = [0u8; jobtext::LONGEST];
+    let written = jobtext::write(job, every_ground(land), &mut text);
+    match written {
+        Written::Granted(length) => {
+            say(b"written", &[0, length as u64]);
+            write(&text, length);
+        }
+        Written::Refused(why) => say(b"written", &[refusal::number(why), 0]),
+    }
+}
+
+fn job_of(
+    practice: u64,
+    nutrient: Nutrient,
+    mode: Mode,
+    rate: u64,
+    task: Task,
+    amount: u64,
+) -> Job {
+    Job {
+        practice,
+        nutrient,
+        mode,
+        rate: Rate(rate),
+        task,
+        amount,
+    }
+}
+
+// A job of every practice and of every land use.
+fn written() {
+    let p = Nutrient::P;
+    let n = Nutrient::N;
+    let step = Mode::Step;
+    let mix = Mode::Mix;
+    say_written(job_of(0, p, step, 0, Task::Load, 0), LandUse::Com);
+    say_written(job_of(1, n, step, 9, Task::Credit, 10), LandUse::Ind);
+    say_written(job_of(2, p, mix, 17, Task::Size, 999), LandUse::Hdr);
+    say_written(job_of(3, n, mix, 102, Task::Load, 5_678), LandUse::Mdr);
+    say_written(
+        job_of(4, p, step, 8_270, Task::Credit, 335_847_600),
+        LandUse::Ldr,
+    );
+    say_written(job_of(5, n, step, 10_000, Task::Size, 70_000), LandUse::Hwy);
+    say_written(
+        job_of(6, p, mix, 123_456, Task::Load, 1_100_343_750),
+        LandUse::For,
+    );
+    say_written(
+        job_of(
+            7,
+            n,
+            mix,
+            99_999_999_999_999,
+            Task::Credit,
+            10_000_000_000_000,
+        ),
+        LandUse::Open,
+    );
+    say_written(
+        job_of(
+            8,
+            p,
+            step,
+            10_203_040_506_070,
+            Task::Size,
+            99_999_999_999_999,
+        ),
+        LandUse::Ag,
+    );
+}
+
 fn main() {
     runoffs();
     sheet_of_the_rules();
@@ -551,4 +639,5 @@ fn main() {
     loads_of(Nutrient::N);
     run();
     points();
+    written();
 }
