@@ -97,7 +97,7 @@ enum sagecruet_number {
     SAGECRUET_TARGET_UNREACHABLE = 10, /* No size reaches the target. */
     SAGECRUET_READING_NOT_A_RATE = 11, /* The reading is no rate. */
     SAGECRUET_READING_TOO_FAST = 12,   /* The reading is too fast. */
-    SAGECRUET_BUFFER_TOO_SHORT = 13,   /* There is no room for the answer text. */
+    SAGECRUET_BUFFER_TOO_SHORT = 13,   /* There is no room for the text. */
     SAGECRUET_SITE_FULL = 14,          /* The site has more than 32 sub-areas. */
     SAGECRUET_PAST_LARGEST = 15,       /* A load or a volume is past the largest number. */
     SAGECRUET_NUMBER_NOT_HELD = 16,    /* The site does not hold this number, or its numbers are not in order. */

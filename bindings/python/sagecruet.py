@@ -53,7 +53,7 @@ REFUSALS = {
     10: "No size reaches the target.",
     11: "The reading is no rate.",
     12: "The reading is too fast.",
-    13: "There is no room for the answer text.",
+    13: "There is no room for the text.",
     14: "The site has more than 32 sub-areas.",
     15: "A load or a volume is past the largest number.",
     16: "The site does not hold this number, or its numbers are not in order.",

@@ -137,10 +137,10 @@ fn put_text(job: Job, site: Site, buf: &mut [u8]) -> usize
     ensures { λ r. ⌜ r ≡ putLength (now (buf .entry)) (jobText job (partsOf site)) ⌝ }
     ensures { λ _. ⌜ now (buf .exit) ≡ bufferOf (now (buf .entry)) (jobText job (partsOf site)) ⌝ }
 {
-    let count = site.count;
+    let held = site.count;
     let mut at = put_head(job, buf);
     let mut i = 0;
-    while i < count {
+    while i < held {
         let part = site.parts[i];
         at += put_area(part, &mut buf[at..]);
         i += 1;
