@@ -63,13 +63,13 @@ pub record ReadAs (job : Job) (s : Site) (ps : List SubArea) (r : Reading) : Typ
   pub parts : partsOf (storedAll s ps) ≡ partsOf s ++ ps
 
 -- some sub-areas that a site of a total area has room for
-pub record Room (s : Site) (total : Area) (ps : List SubArea) : Type 0 where
+pub record RoomLeft (s : Site) (total : Area) (ps : List SubArea) : Type 0 where
   pub fit : allFit ps ≡ true
   pub places : s .count + length ps ≤ mostParts
   pub within : total .0 + totalArea ps ≤ mostArea
 
 -- The first of them is added, and there is room for the others.
-module _ (s : Site) (total : Area) (b : Built s total) (p : SubArea) (ps : List SubArea) (room : Room s total (p ∷ ps)) where
+module _ (s : Site) (total : Area) (b : Built s total) (p : SubArea) (ps : List SubArea) (room : RoomLeft s total (p ∷ ps)) where
   abbrev sum : Area
   sum = record { 0 = total .0 + areaOf p }
 
@@ -89,7 +89,7 @@ module _ (s : Site) (total : Area) (b : Built s total) (p : SubArea) (ps : List 
       (add-granted-exactly s p (total .0) (sum .0) (ap given (b .fine)) .1
       (first-fits, omega arith, built-unspent s total b, refl, omega arith))
 
-  room-left : Room (added s p .site) sum ps
+  room-left : RoomLeft (added s p .site) sum ps
   unfolding allFit sumOf
   room-left =
       let places = room .places in
@@ -102,7 +102,7 @@ module _ (s : Site) (total : Area) (b : Built s total) (p : SubArea) (ps : List 
       }
 
 -- Sub-areas that are written are read behind a site that has room for them.
-pub areas-back : (job : Job) (ps : List SubArea) (k : ℕ) (s : Site) (total : Area) → Built s total → Room s total ps → 1 ≤ s .count + length ps
+pub areas-back : (job : Job) (ps : List SubArea) (k : ℕ) (s : Site) (total : Area) → Built s total → RoomLeft s total ps → 1 ≤ s .count + length ps
     → ReadAs job s ps (areasFrom job (linesOf (areasText ps)) k s)
 unfolding areasFrom areasText flatten pieces storedAll
 areas-back job [] k s total b room some =

@@ -9,7 +9,7 @@ use Rattle.writing.specs.Lines.{lineWith}
 use Rattle.writing.specs.Writing.{pasted, writtenOf, bufferOf}
 use Rattle.jobtext.specs.Text.{areaText, jobText, jobWritten, jobBuffer}
 use Rattle.jobtext.specs.Records.{storedAll}
-use Rattle.jobtext.specs.Numbers.{SampleWritten, Lengths, Written}
+use Rattle.jobtext.specs.Numbers.{SampleWritten, Lengths, WrittenOrNot}
 
 pub sample-written : SampleWritten
 unfolding storedAll jobText areaText lineWith flatten decimalOf decimalFrom pieces joined
@@ -19,6 +19,6 @@ pub lengths : Lengths
 unfolding storedAll jobText areaText lineWith flatten decimalOf decimalFrom pieces joined
 lengths = refl
 
-pub written : Written
+pub written-or-not : WrittenOrNot
 unfolding jobWritten jobBuffer judged judgedFrom risesTo writtenOf bufferOf pasted storedAll jobText areaText lineWith flatten decimalOf decimalFrom pieces joined
-written = refl
+written-or-not = refl

@@ -31,7 +31,7 @@ use Rattle.writing.specs.Lines.{lineWith}
 use Rattle.writing.specs.Writing.{bufferOf, writtenGiven}
 use Rattle.writing.proofs.Writing.{granted-length, buffer-holds}
 use Rattle.jobtext.specs.Text.{areaText, jobText, jobWritten, jobBuffer}
-use Rattle.jobtext.specs.Promises.{Writable, LongestReached, WriteTries, WriteOrder, RefusedKeeps, GrantedHolds, LongestSuffices}
+use Rattle.jobtext.specs.Promises.{Writable, LongestReached, WriteTries, WriteOrder, GrantedExactly, RefusedKeeps, GrantedHolds, LongestSuffices}
 use Rattle.jobtext.specs.Records.{storedAll}
 use Rattle.jobtext.specs.Numbers.{longestJob, longestSite}
 use Rattle.jobtext.specs.Inner.{passes}
@@ -187,3 +187,20 @@ write-order buf j s m = told (ending buf j s)
           short = λ x h. absurd (omega arith);
           written = λ x h. ap writtenGiven w;
         }
+
+pub granted-exactly : GrantedExactly
+granted-exactly buf j s n m = (only (ending buf j s), there)
+  where
+    text : List ℕ
+    text = jobText j (partsOf s)
+
+    only : Ending buf j s → writtenGiven (jobWritten buf j s) ≡ (granted, n) → Writable j s × (length text ≡ n) × (n ≤ length buf)
+    only (unfit why f w b) e = absurd (refusal-not-granted why (ap (λ (g : ℕ × ℕ). g .0) (sym (ap writtenGiven w) ∙ e)))
+    only (failed total f p w b) e = absurd (refusal-not-granted MalformedText (ap (λ (g : ℕ × ℕ). g .0) (sym (ap writtenGiven w) ∙ e)))
+    only (short total f t h w b) e = absurd (refusal-not-granted BufferTooShort (ap (λ (g : ℕ × ℕ). g .0) (sym (ap writtenGiven w) ∙ e)))
+    only (put total f t h w b) e =
+        let long : length text ≡ n = ap (λ (g : ℕ × ℕ). g .1) (sym (ap writtenGiven w) ∙ e) in
+        (tested-writable j s m (ap (λ (x : AreaAnswer). givenArea x .0) f) t, long, rw (← long) h)
+
+    there : Writable j s × (length text ≡ n) × (n ≤ length buf) → writtenGiven (jobWritten buf j s) ≡ (granted, n)
+    there p = write-order buf j s m .written (p .0) (rw (p .1) (p .2)) ∙ (λ i. (granted, p .1 i))

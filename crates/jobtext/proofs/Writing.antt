@@ -28,7 +28,7 @@ use Rattle.job.specs.Words.{practiceWords}
 use Rattle.writing.specs.declared.Written.the-variants.{Granted, Refused}
 use Rattle.writing.specs.Writing.{writtenOf, putLength, bufferOf}
 use Rattle.writing.proofs.Writing.{short-told, long-told, refused-answer, refused-buffer, granted-put}
-use Rattle.jobtext.specs.Text.{hasWord, jobText, short, writable, jobWritten, jobBuffer, longest}
+use Rattle.jobtext.specs.Text.{hasWord, jobText, fewDigits, writable, jobWritten, jobBuffer, longest}
 use Rattle.jobtext.specs.Inner.{passes, Passed, Room}
 use Rattle.jobtext.proofs.Lengths.{job-short}
 
@@ -67,8 +67,8 @@ pub tested : (j : Job) (count : ℕ) → passes j count ≡ true → Tested j co
 tested j count e =
     let some = leb 1 count in
     let word = hasWord practiceWords (j .practice) in
-    let rate = short (j .rate .0) in
-    let three = and-left (some && word && rate) (short (j .amount)) e in
+    let rate = fewDigits (j .rate .0) in
+    let three = and-left (some && word && rate) (fewDigits (j .amount)) e in
     let two = and-left (some && word) rate three in
     let p = ltb-true (j .practice) (length (pieces space practiceWords)) (and-right some word two) in
     let n = nine in
@@ -76,7 +76,7 @@ tested j count e =
       some = leb-true 1 count (and-left some word two);
       practice = omega arith;
       rate = ltb-true (j .rate .0) (10 ^ mostDigits) (and-right (some && word) rate three);
-      amount = ltb-true (j .amount) (10 ^ mostDigits) (and-right (some && word && rate) (short (j .amount)) e);
+      amount = ltb-true (j .amount) (10 ^ mostDigits) (and-right (some && word && rate) (fewDigits (j .amount)) e);
     }
 
 pub tests-pass : (j : Job) (count : ℕ) → Tested j count → true ≡ passes j count
@@ -102,7 +102,7 @@ module _ {A : Type 0} (refused : Refusal → A) (x : A) where
   four false b c e = refl
 
   turned : (j : Job) (s : Site) → inTurn refused x (writable j s) ≡ cond (passes j (s .count)) x (refused MalformedText)
-  turned j s = four (leb 1 (s .count)) (hasWord practiceWords (j .practice)) (short (j .rate .0)) (short (j .amount))
+  turned j s = four (leb 1 (s .count)) (hasWord practiceWords (j .practice)) (fewDigits (j .rate .0)) (fewDigits (j .amount))
 
 -- A record that is refused stops the call,
 module _ (d : List ℕ) (j : Job) (s : Site) {found : AreaAnswer} (e : found ≡ judged s) where

@@ -16,7 +16,7 @@ use Rattle.text.specs.Numbers.{decimalOf}
 use Rattle.job.specs.declared.Job.{Job}
 use Rattle.job.specs.Words.{practiceWords}
 use Rattle.writing.specs.Lines.{wordAt}
-use Rattle.jobtext.specs.Text.{hasWord, areaText, headTexts, short}
+use Rattle.jobtext.specs.Text.{hasWord, areaText, headTexts, fewDigits}
 
 -- the word at a place of a list in rows of n bytes, with the byte that ends it
 abbrev pub endedWord : ℕ → List ℕ → ℕ → ℕ → List ℕ
@@ -35,7 +35,7 @@ areasText ps = flatten (map areaText ps)
 
 -- the tests that follow those of the record, all of which pass
 abbrev pub passes : Job → ℕ → Bool
-passes j count = leb 1 count && hasWord practiceWords (j .practice) && short (j .rate .0) && short (j .amount)
+passes j count = leb 1 count && hasWord practiceWords (j .practice) && fewDigits (j .rate .0) && fewDigits (j .amount)
 
 -- a record that is judged fine, and a job that passes with it
 pub record Passed (j : Job) (s : Site) : Type 0 where

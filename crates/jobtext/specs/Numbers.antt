@@ -25,11 +25,12 @@ use Rattle.jobtext.specs.Records.{siteOf}
 abbrev part : LandUse → Cover → Soil → ℕ → SubArea
 part land cover soil area = record { land = land; cover = cover; soil = soil; area = record { 0 = area } }
 
--- jobs/sample.job as a job and a site, with another practice, rate and amount
+-- a load job with a practice, a rate and an amount
 abbrev load : ℕ → ℕ → ℕ → Job
 load practice rate amount =
     record { practice = practice; nutrient = N; mode = Step; rate = record { 0 = rate }; task = Load; amount = amount }
 
+-- jobs/sample.job as a job and a site, and its text
 abbrev pub sampleJob : Job
 sampleJob = load 1 0 0
 
@@ -75,10 +76,10 @@ blanks n = replicate n 0
 abbrev writing : ℕ → Job → Site → (ℕ × ℕ) × List ℕ
 writing room j s = (writtenGiven (jobWritten (blanks room) j s), jobBuffer (blanks room) j s)
 
--- A practice, a rate or an amount without a word or of 15 digits, an empty site, also in a buffer of 0 bytes; then the sample in a byte
+-- A practice without a word, a rate and an amount of 15 digits, an empty site, also in a buffer of 0 bytes; then the sample in a byte
 -- too few, in as many as it has, and in one more.
-abbrev pub Written : Type 0
-Written =
+abbrev pub WrittenOrNot : Type 0
+WrittenOrNot =
     writing 119 (load 9 0 0) sampleSite
     ∷ writing 119 (load 1 (10 ^ 14) 0) sampleSite
     ∷ writing 119 (load 1 0 (10 ^ 14)) sampleSite

@@ -20,7 +20,7 @@ use Rattle.writing.specs.Writing.{writtenGiven}
 use Rattle.jobtext.specs.Text.{jobText, jobWritten, jobBuffer, longest}
 use Rattle.jobtext.specs.Records.{siteOf}
 
--- A job and a record in memory that are not refused: the record is judged fine and holds a sub-area, the practice is one of the nine,
+-- A job and a record in memory of which there is a text: the record is judged fine and holds a sub-area, the practice is one of the nine,
 -- and rate and amount have at most 14 digits.
 pub record Writable (j : Job) (s : Site) : Type 0 where
   pub memory : InMemory s
@@ -80,6 +80,14 @@ pub record WriteTries (buf : List ℕ) (j : Job) (s : Site) (answer : ℕ × ℕ
 
 abbrev pub WriteOrder : Type 0
 WriteOrder = (buf : List ℕ) (j : Job) (s : Site) → InMemory s → WriteTries buf j s (writtenGiven (jobWritten buf j s))
+
+-- So a text is written exactly of a job and a record of which there is one, where the buffer has room for it.
+abbrev pub GrantedExactly : Type 0
+GrantedExactly =
+    (buf : List ℕ) (j : Job) (s : Site) (n : ℕ)
+    → InMemory s
+    → (writtenGiven (jobWritten buf j s) ≡ (granted, n))
+    ↔ (Writable j s × (length (jobText j (partsOf s)) ≡ n) × (n ≤ length buf))
 
 -- A refused writing leaves every byte of the buffer as it was.
 abbrev pub RefusedKeeps : Type 0

@@ -65,8 +65,8 @@ unfoldable pub jobText : Job → List SubArea → List ℕ
 jobText j ps = flatten (jobLines j ps)
 
 -- a number that has at most 14 digits
-abbrev pub short : ℕ → Bool
-short n = ltb n (10 ^ mostDigits)
+abbrev pub fewDigits : ℕ → Bool
+fewDigits n = ltb n (10 ^ mostDigits)
 
 -- what is tried in turn of a job and a record that is judged fine, with 1 for each: an empty site, a practice that has no word, a
 -- rate of more than 14 digits, an amount of more
@@ -74,8 +74,8 @@ abbrev pub writable : Job → Site → List (Bool × Refusal)
 writable j s =
     (leb 1 (s .count), MalformedText)
     ∷ (hasWord practiceWords (j .practice), MalformedText)
-    ∷ (short (j .rate .0), MalformedText)
-    ∷ (short (j .amount), MalformedText)
+    ∷ (fewDigits (j .rate .0), MalformedText)
+    ∷ (fewDigits (j .amount), MalformedText)
     ∷ []
 
 -- What writing answers: the record's refusal, then 1, and then the length of the text or 13.

@@ -21,15 +21,15 @@ mod places;
 // The length of the longest text: a buffer of this size is never too short.
 pub const LONGEST: usize = 837;
 
-// The first number that has more than 14 digits.
-const FIFTEEN_DIGITS: u64 = 100_000_000_000_000;
-
 // The same as an answer: room for the text of any job.
 pub fn room() -> usize
     ensures { λ r. ⌜ r ≡ longest ⌝ }
 {
     LONGEST
 }
+
+// The first number that has more than 14 digits.
+const FIFTEEN_DIGITS: u64 = 100_000_000_000_000;
 
 // Writes a job with its site at the start of buf: the record is judged, then the job is tried, then the length of buf.
 pub fn write(job: Job, site: Site, buf: &mut [u8]) -> Written

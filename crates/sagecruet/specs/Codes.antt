@@ -67,7 +67,7 @@ jobIn c =
 abbrev pub areasIn : Codes → List SubArea
 areasIn c = partsIn (countIn (c .areas)) (c .areas)
 
--- the codes of a job's words, but for its sub-areas
+-- whether the codes of a job's words have words, those of its sub-areas left out
 abbrev pub headWorded : ℕ → ℕ → ℕ → Bool
 headWorded nutrient mode task = hasWord nutrientWords nutrient && hasWord modeWords mode && hasWord taskWords task
 

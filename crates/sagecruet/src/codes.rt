@@ -86,7 +86,7 @@ fn soil_at(code: u64) -> Soil
     all[code as usize]
 }
 
-// The codes of a job's words, but for its sub-areas.
+// Whether the codes of nutrient, mode and task have words.
 fn head_worded(nutrient: u64, mode: u64, task: u64) -> bool
     ensures { λ r. ⌜ r ≡ headWorded nutrient mode task ⌝ }
 {
@@ -99,7 +99,7 @@ fn head_worded(nutrient: u64, mode: u64, task: u64) -> bool
     task < 3
 }
 
-// Those of a sub-area.
+// Whether those of a sub-area have.
 fn part_worded(land: u64, cover: u64, soil: u64) -> bool
     ensures { λ r. ⌜ r ≡ worded land cover soil ⌝ }
 {
@@ -112,6 +112,7 @@ fn part_worded(land: u64, cover: u64, soil: u64) -> bool
     soil < 7
 }
 
+// The sub-area of four numbers, whose codes have words.
 fn part_of(land: u64, cover: u64, soil: u64, area: u64) -> SubArea
     requires { ⌜ (land < 9) × (cover < 2) × (soil < 7) ⌝ }
     ensures { λ r. ⌜ r ≡ partIn land cover soil area ⌝ }
@@ -124,7 +125,7 @@ fn part_of(land: u64, cover: u64, soil: u64, area: u64) -> SubArea
     }
 }
 
-// Those of so many sub-areas of a list.
+// Whether those of so many sub-areas of a list have.
 fn all_worded(areas: &[u64], count: usize) -> bool
     requires { ⌜ Fours count (now areas) ⌝ }
     ensures { λ r. ⌜ r ≡ allWorded count (now (areas .entry)) ⌝ }

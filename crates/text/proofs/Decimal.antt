@@ -26,7 +26,7 @@ digit-read n t v h =
 digit-first : (n : ℕ) (t : List ℕ) → n < 10 → digitsFrom ((digitZero + n) ∷ t) 0 ≡ digitsFrom t n
 digit-first n t h = digit-read n t 0 h ∙ ap (digitsFrom t) (zero-add n)
 
--- The rest of a number's digits is that of a number ten times smaller
+-- The rest of a number's digits is that of a number ten times smaller.
 pub tenth-below : (n k : ℕ) → n < 10 ^ suc (suc k) → n / 10 < 10 ^ suc k
 tenth-below n k h = div-lt-iff-lt-mul {k = 10} {x = n} {y = 10 ^ suc k} (omega arith) .1 (rw (pow-suc 10 (suc k)) at h)
 

@@ -1,6 +1,7 @@
-// Rules, "Numbers to hold on to" and "Numbers of sub-areas": runs the numbers that are told there, volumes on a soil that is not
-// known, a run of adds and removals, every entry of the published tables and the writing of jobs through the library, and prints what
-// each gives. The stored output was made from document 001 and the rules without the library, and tools/expected.py says what each line holds.
+// Rules, "Numbers to hold on to", "Numbers of sub-areas" and "Writing a job": runs the numbers that are told there, volumes on a soil
+// that is not known, a run of adds and removals, every entry of the published tables and the writing of jobs through the library, and
+// prints what each gives. The stored output was made from document 001 and the rules without the library, and tools/expected.py says
+// what each line holds.
 use credit::CreditAnswer;
 use credit::Wanted;
 use curve::Mode;
