@@ -1,3 +1,4 @@
 pub mod Numbers
 pub mod Codes
+pub mod Promises
 pub mod Inner
