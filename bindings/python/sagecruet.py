@@ -16,10 +16,10 @@ year, percents in thousandths of a percent. from_acres, to_acres and their likes
 REFUSALS says what the numbers given back mean; a job that cannot be written raises Refused with its number. The basis, a word
 of BASES, says how the percent beside it was found.
 
-The functions call the proved library, a shared object for x86-64 Linux. Where it cannot be loaded, whatever asks for a
-job on the published tables (answer, answer_text, curve, plot) goes by the program creditrun instead, rewrite goes by the
-program rewriterun, job by the program entry, which calls the library, and the rest raises Unavailable, which says why and
-what to do. backend() says which answers a job: library or program. bindings/python/README.md says more.
+The functions call the proved library, a shared object for x86-64 Linux. Where it cannot be loaded, answer and answer_text go
+by the program creditrun, on the published tables, and rewrite by the program rewriterun; job goes by the program entry, which
+calls the library, and curve and plot by entry and creditrun. The rest raises Unavailable, which says why and what to do.
+backend() says which answers a job: library or program. bindings/python/README.md says more.
 """
 
 import ctypes
@@ -388,7 +388,8 @@ def _instead():
         _program()
     except Unavailable:
         return ""
-    return "; here answer, answer_text, curve and plot work, on the published tables, by the program creditrun"
+    return ("; here answer and answer_text work, on the published tables, by the program creditrun, and with the program entry "
+            "curve and plot")
 
 
 # For each program the setting that names another command for it, and the option by which `run` starts it.
@@ -481,9 +482,9 @@ def _by_program(command, job, what, fits):
 
 def job(practice, nutrient, mode, rate, task, amount, areas):
     """The text of a job, from its values and a list of (use, cover, soil, area). The library writes it: what is written reads
-    as these values. A word or a number that no job may have raises Refused, with the number in its `answer`. Whether the job
-    is granted, answer() says. The soil U means not known, and counts as C for loads and as D for runoff; where C is meant, C is
-    to be written.
+    as these values. A word, a number or a site that no job may have raises Refused, with the number in its `answer`; a number
+    below 0 or from 2**64 on is a plain ValueError. Whether the job is granted, answer() says. The soil U means not known, and
+    counts as C for loads and as D for runoff; where C is meant, C is to be written.
 
     >>> print(job("basin", "N", "step", 0, "load", 0, [("ind", "imp", "-", 1013)]), end="")
     practice=basin

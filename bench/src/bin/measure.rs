@@ -10,7 +10,7 @@
 
 use std::time::Instant;
 
-use bench::generate::{longest, LAND_USES, SOILS};
+use bench::generate::longest;
 #[cfg(feature = "linked")]
 use bench::linked;
 use bench::{reference, Head, Written, JOB_ROOM};
@@ -21,26 +21,29 @@ fn text(kind: &str) -> String {
     if kind == "refused" {
         return text("load").replace("area=for", "area=fir");
     }
-    if kind == "load" {
-        return "practice=basin\nnutrient=N\nmode=step\nrate=0\ntask=load\namount=0\n\
-                area=ind,imp,-,1013\narea=com,per,C,185\narea=for,per,C,89\n"
-            .to_string();
-    }
-    let amount = match kind {
-        "credit" => 48_155_000_000u64,
-        "size" => 70_000,
+    let (head, areas) = match kind {
+        "load" => sample(),
+        "credit" => several(1, 48_155_000_000),
+        "size" => several(2, 70_000),
         _ => panic!("{} is no kind", kind),
     };
-    let mut text = format!("practice=basin\nnutrient=P\nmode=mix\nrate=39\ntask={}\namount={}\n", kind, amount);
-    for k in 0..32 {
-        let land_use = LAND_USES[k % 9];
-        if k % 2 == 0 {
-            text += &format!("area={},imp,-,{}\n", land_use, 1000 + k);
-        } else {
-            text += &format!("area={},per,{},{}\n", land_use, SOILS[k % 6], 1000 + k);
-        }
-    }
-    text
+    let mut text = vec![0; JOB_ROOM];
+    let written = reference::write(&head, &areas, &mut text);
+    text.truncate(written.len);
+    String::from_utf8(text).unwrap()
+}
+
+/// The values of jobs/sample.job.
+fn sample() -> (Head, Vec<u64>) {
+    let head = Head { practice: 1, nutrient: 1, mode: 0, rate: 0, task: 0, amount: 0 };
+    (head, vec![1, 0, 6, 1013, 0, 1, 2, 185, 6, 1, 2, 89])
+}
+
+/// A basin for phosphorus on 32 sub-areas, impervious and pervious in turn.
+fn several(task: u64, amount: u64) -> (Head, Vec<u64>) {
+    let head = Head { practice: 1, nutrient: 0, mode: 1, rate: 39, task, amount };
+    let part = |k: u64| if k % 2 == 0 { [k % 9, 0, 6, 1000 + k] } else { [k % 9, 1, k % 6, 1000 + k] };
+    (head, (0..32).flat_map(part).collect())
 }
 
 /// The same value, which the compiler can no longer know.
@@ -51,10 +54,7 @@ fn opaque<T: Copy>(value: T) -> T {
 /// The values of a kind: those of jobs/sample.job, or of the longest text.
 fn values(kind: &str) -> Option<(Head, Vec<u64>)> {
     match kind {
-        "write-3" => {
-            let head = Head { practice: 1, nutrient: 1, mode: 0, rate: 0, task: 0, amount: 0 };
-            Some((head, vec![1, 0, 6, 1013, 0, 1, 2, 185, 6, 1, 2, 89]))
-        }
+        "write-3" => Some(sample()),
         "write-32" => Some(longest()),
         _ => None,
     }

@@ -408,7 +408,8 @@ class Answers(unittest.TestCase):
     def test_words_are_those_of_the_table(self):
         rows = [line.split("\t") for line in (ROOT / "docs" / "words.tsv").read_text().splitlines() if line[:1].isdigit()]
         self.assertEqual(sagecruet.REFUSALS, {int(number): words for number, _, words, _ in rows})
-        self.assertIn(f"Lend {sagecruet.ROOM} bytes, which hold any answer.", [row[3] for row in rows])
+        self.assertIn(f"Lend {sagecruet.ROOM} bytes, which hold any answer, or {sagecruet.JOB_ROOM}, which hold any job.",
+                      [row[3] for row in rows])
 
     @needs_repository
     def test_bases_are_those_of_the_table_and_of_the_header(self):
@@ -738,7 +739,7 @@ class WhatIsThere(unittest.TestCase):
                                                    "removed": 3})
             self.assertRaises(module.Unavailable, module.answer, SIZE, T)
             with self.machine("aarch64"):
-                words = "aarch64; here answer, .* work, .* by the program creditrun"
+                words = "aarch64; here answer and answer_text work, .* by the program creditrun"
                 self.assertRaisesRegex(module.Unavailable, words, module.reading, 0.5)
 
     def test_the_program_that_is_named_comes_first(self):
