@@ -1,4 +1,4 @@
--- Rules, "Writing a job": numbers of written jobs, all together as one list. Proved in proofs/Numbers.antt.
+-- Rules, "Writing a job": numbers of written jobs: a text, its length and others, and what writing answers. Proved in proofs/Numbers.antt.
 -- Assumes nothing.
 use Prim.Native.Nat.{ℕ, _^_}
 use mathlib.Core.List.{List, [], _∷_, _++_}
