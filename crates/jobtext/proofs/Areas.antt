@@ -20,7 +20,7 @@ use Rattle.site.specs.declared.AreaAnswer.{AreaAnswer}
 use Rattle.site.specs.declared.AreaAnswer.the-variants as area
 use Rattle.site.specs.Parts.{mostParts, partsOf, areaOf, totalArea}
 use Rattle.site.specs.Judging.{fits, given}
-use Rattle.site.specs.Adding.{stored, added}
+use Rattle.site.specs.Adding.{added}
 use Rattle.site.specs.Promises.{allFit}
 use Rattle.site.proofs.Promises.{given-granted, add-granted-exactly, granted-holds, stores}
 use Rattle.text.specs.Pieces.{lineFeed, pieces}
@@ -55,12 +55,6 @@ module _ (s : Site) (total : Area) (b : Built s total) (p : SubArea) (more : Are
 
   count-more : added s p .site .count ≡ s .count + 1
   count-more = ap (λ (a : Added). a .site .count) (stores s p more g)
-
--- What is read of some lines that stand for sub-areas, behind those of a site: the job, and the site with these behind its own.
-pub record ReadAs (job : Job) (s : Site) (ps : List SubArea) (r : Reading) : Type 0 where
-  pub read : r ≡ record { answer = Granted job; site = storedAll s ps }
-  pub count : storedAll s ps .count ≡ s .count + length ps
-  pub parts : partsOf (storedAll s ps) ≡ partsOf s ++ ps
 
 -- some sub-areas that a site of a total area has room for
 pub record RoomLeft (s : Site) (total : Area) (ps : List SubArea) : Type 0 where
@@ -101,31 +95,21 @@ module _ (s : Site) (total : Area) (b : Built s total) (p : SubArea) (ps : List 
         within = omega arith;
       }
 
--- Sub-areas that are written are read behind a site that has room for them.
+-- Sub-areas that are written are read behind a site that has room for them: the job, and the site with these stored behind its own.
 pub areas-back : (job : Job) (ps : List SubArea) (k : ℕ) (s : Site) (total : Area) → Built s total → RoomLeft s total ps → 1 ≤ s .count + length ps
-    → ReadAs job s ps (areasFrom job (linesOf (areasText ps)) k s)
+    → areasFrom job (linesOf (areasText ps)) k s ≡ record { answer = Granted job; site = storedAll s ps }
 unfolding areasFrom areasText flatten pieces storedAll
-areas-back job [] k s total b room some =
-    rw (le-leb 1 (s .count) (omega arith)) (record { read = refl; count = omega arith; parts = sym (append-nil (partsOf s)) })
+areas-back job [] k s total b room some = rw (le-leb 1 (s .count) (omega arith))
 areas-back job (p ∷ ps) k s total b room some =
     let g = first-added s total b p ps room in
     let more = sum s total b p ps room in
     let count = count-more s total b p more g in
     let later = areas-back job ps (k + 1) (added s p .site) more (built-more s total b p more g) (room-left s total b p ps room) (omega arith) in
-    let put : added s p .site ≡ stored s p = ap (λ (a : Added). a .site) (stores s p more g) in
-    let counted = later .count in
     rw (
       area-first p (areasText ps),
       reads-on job _ (linesOf (areasText ps)) k s p more (some-line (areasText ps)) (area-added p (areasText ps) s (first-short s total b p ps room)) g,
     )
-    (record {
-      read = later .read ∙ ap (λ (t : Site). record { answer = Granted job; site = storedAll t ps }) put;
-      count = rw put at counted ∙ omega arith;
-      parts =
-          (rw put at (later .parts))
-          ∙ ap (λ (qs : List SubArea). qs ++ ps) (rw put at (parts-more s total b p more g))
-          ∙ append-assoc (partsOf s) (p ∷ []) ps;
-    })
+    (later ∙ ap (λ (a : Added). record { answer = Granted job; site = storedAll (a .site) ps }) (stores s p more g))
 
 -- What lines that read tell: the job, a site that is built, and the bytes, which are those of the sub-areas that they add.
 pub record AreasTold (job : Job) (s : Site) (ls : List (List ℕ)) (r : Reading) : Type 0 where

@@ -6,6 +6,7 @@ pub mod Pieces
 pub mod Writing
 pub mod Words
 pub mod Lines
+pub mod Records
 pub mod AreaLines
 pub mod Heads
 pub mod Areas

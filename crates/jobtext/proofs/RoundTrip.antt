@@ -26,11 +26,13 @@ use Rattle.job.specs.Reading.{mostBytes, headLines, readingOf, given}
 use Rattle.job.proofs.Telling.{Grants, lines-read}
 use Rattle.job.proofs.Building.{built-none}
 use Rattle.jobtext.specs.Text.{jobText}
+use Rattle.jobtext.specs.Records.{siteOf}
 use Rattle.jobtext.specs.Inner.{areasText}
 use Rattle.jobtext.specs.Promises.{Writable, ReadsBack, WritesBack, WrittenTextsRead, OneText}
 use Rattle.jobtext.proofs.Lengths.{never-too-long}
+use Rattle.jobtext.proofs.Records.{stored-count, stored-parts}
 use Rattle.jobtext.proofs.Heads.{head-read, head-told}
-use Rattle.jobtext.proofs.Areas.{ReadAs, areas-back, areas-told}
+use Rattle.jobtext.proofs.Areas.{areas-back, areas-told}
 
 -- What is written of a job and a record that are not refused reads as the job, and as a site with the record's sub-areas.
 module _ (j : Job) (s : Site) (w : Writable j s) where
@@ -41,7 +43,7 @@ module _ (j : Job) (s : Site) (w : Writable j s) where
       let places = w .memory .parts in
       length-take-le (s .count) (s .parts) (omega arith)
 
-  read-as : length (jobText j (partsOf s)) ≤ mostBytes → ReadAs j emptySite (partsOf s) (readingOf (jobText j (partsOf s)))
+  read-as : length (jobText j (partsOf s)) ≤ mostBytes → readingOf (jobText j (partsOf s)) ≡ record { answer = Granted j; site = siteOf (partsOf s) }
   unfolding readingOf areasText
   read-as short =
       let fine = given-some (judged s) (w .fine) in
@@ -88,10 +90,13 @@ pub reads-back : ReadsBack
 reads-back j s w =
     let text = never-too-long .0 j s w in
     let most = never-too-long .1 in
-    let r = read-as j s w (omega arith) in
-    let count = r .count in
-    let long = parts-long j s w in
-    (r .read, omega arith, r .parts)
+    let fine = given-some (judged s) (w .fine) in
+    let few = judged-has s (fine .0) (fine .1) .0 in
+    let long = parts-long j s w in (
+      read-as j s w (omega arith),
+      stored-count emptySite (partsOf s) ∙ omega arith,
+      stored-parts emptySite (partsOf s) (record { parts = refl; numbers = refl }) (omega arith),
+    )
 
 pub written-texts-read : WrittenTextsRead
 written-texts-read text = (only, there)

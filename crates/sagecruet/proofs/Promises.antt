@@ -1,8 +1,8 @@
 -- The promise of a job that is written from its codes, proved.
 -- Assumes nothing.
-use Prim.Native.Nat.{ℕ, zero, suc, _+_, _%_, _≤_}
+use Prim.Native.Nat.{ℕ, zero, suc, _%_, _≤_}
 use mathlib.Core.Bool.{Bool, true, false}
-use mathlib.Core.List.{List, [], _∷_, _++_, append-assoc, append-nil}
+use mathlib.Core.List.{List, [], _∷_}
 use mathlib.Core.Path.{_≡_, refl, sym, _∙_, ap}
 use native.Mathlib.Omega.{arith}
 use borrow.Author.Tests.{leb-true}
@@ -14,38 +14,22 @@ use Rattle.refusal.specs.declared.Refusal.the-variants.{MalformedText, SiteFull
 use Rattle.refusal.specs.Refusal.{granted}
 use Rattle.refusal.proofs.Numbers.{refusal-not-granted}
 use Rattle.site.specs.declared.SubArea.{SubArea}
-use Rattle.site.specs.declared.Site.{Site}
 use Rattle.site.specs.Parts.{mostParts, partsOf, emptySite}
-use Rattle.site.specs.Adding.{stored}
 use Rattle.site.specs.Promises.{InMemory}
-use Rattle.site.proofs.Adding.{memory-stored}
-use Rattle.site.proofs.Promises.{parts-stored}
 use Rattle.job.specs.declared.JobAnswer.the-variants.{Granted}
 use Rattle.job.specs.Reading.{readingOf}
 use Rattle.writing.specs.declared.Written.{Written}
 use Rattle.writing.specs.declared.Written.the-variants.{Refused}
 use Rattle.writing.specs.Writing.{writtenGiven}
 use Rattle.jobtext.specs.Text.{jobWritten, jobBuffer}
-use Rattle.jobtext.specs.Records.{storedAll, siteOf}
+use Rattle.jobtext.specs.Records.{siteOf}
+use Rattle.jobtext.proofs.Records.{stored-memory, stored-parts}
 use Rattle.jobtext.proofs.Promises.{granted-exactly, granted-holds}
 use Rattle.jobtext.proofs.RoundTrip.{reads-back}
 use Rattle.sagecruet.specs.Codes.{Codes, countIn, partsIn, allWorded, headWorded, jobIn, areasIn, codesWritten, codesBuffer}
 use Rattle.sagecruet.specs.Promises.{CodesReadBack}
 
--- Sub-areas that are stored stand behind the others, where there are places for them.
-stored-memory : (s : Site) (ps : List SubArea) → InMemory s → InMemory (storedAll s ps)
-unfolding storedAll
-stored-memory s [] m = m
-stored-memory s (p ∷ ps) m = stored-memory (stored s p) ps (memory-stored s p m)
-
-stored-parts : (s : Site) (ps : List SubArea) → InMemory s → s .count + length ps ≤ mostParts → partsOf (storedAll s ps) ≡ partsOf s ++ ps
-unfolding storedAll
-stored-parts s [] m h = sym (append-nil (partsOf s))
-stored-parts s (p ∷ ps) m h =
-    stored-parts (stored s p) ps (memory-stored s p m) (omega arith)
-    ∙ ap (λ (qs : List SubArea). qs ++ ps) (parts-stored s p m (omega arith))
-    ∙ append-assoc (partsOf s) (p ∷ []) ps
-
+-- A list gives as many sub-areas as are asked of it.
 parts-many : (n : ℕ) (xs : List ℕ) → length (partsIn n xs) ≡ n
 unfolding partsIn
 parts-many zero xs = refl
