@@ -18,6 +18,12 @@ sameOf [] (y ∷ t) = false
 sameOf (x ∷ s) [] = false
 sameOf (x ∷ s) (y ∷ t) = eqb x y && sameOf s t
 
+-- what two texts have in common from their start
+unfoldable pub agreedOf : List ℕ → List ℕ → List ℕ
+agreedOf [] t = []
+agreedOf (x ∷ s) [] = []
+agreedOf (x ∷ s) (y ∷ t) = cond (eqb x y) (x ∷ agreedOf s t) []
+
 -- s opens with the key
 abbrev pub opensOf : List ℕ → List ℕ → Bool
 opensOf key s = sameOf (partOf s 0 (length key)) key

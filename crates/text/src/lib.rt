@@ -5,7 +5,7 @@ ghost use mathlib.Core.List.{[], _∷_, _++_};
 ghost use lib.ListN.{length, drop};
 ghost use Rattle.text.specs.Part.{Part};
 ghost use Rattle.text.specs.Pieces.{indexOf, nextOf, startOf};
-ghost use Rattle.text.specs.Words.{sameOf, opensOf, behindOf, unread, rowsOf, wordFrom};
+ghost use Rattle.text.specs.Words.{sameOf, agreedOf, opensOf, behindOf, unread, rowsOf, wordFrom};
 ghost use Rattle.text.specs.Numbers.{mostDigits, leadingZero, digitsFrom, numeralOf};
 
 // The place of a word in a list of words, counted from 0.
@@ -106,6 +106,21 @@ fn same(s: &[u8], t: &[u8]) -> bool
         i += 1;
     }
     true
+}
+
+// How many bytes two texts have in common from their start.
+pub fn agreed(s: &[u8], t: &[u8]) -> usize
+    ensures { λ r. ⌜ r ≡ length (agreedOf (now (s .entry)) (now (t .entry))) ⌝ }
+{
+    let both = least(s.len(), t.len());
+    let mut i = 0;
+    while i < both {
+        if t[i] != s[i] {
+            return i;
+        }
+        i += 1;
+    }
+    i
 }
 
 // The key stands in s at a place.

@@ -1,0 +1,9 @@
+pub mod Counting
+pub mod Comparing
+pub mod Kept
+pub mod Numbers
+pub mod FullLines
+pub mod Ends
+pub mod Parting
+pub mod AnswerLines
+pub mod Promises

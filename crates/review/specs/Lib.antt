@@ -1,0 +1,4 @@
+pub mod Checking
+pub mod Lines
+pub mod Promises
+pub mod Numbers
