@@ -151,6 +151,15 @@ struct sagecruet_written {
     size_t len;
 };
 
+/* What the check of an answer says: `line` is 0 where the answer is right, else the number of its first wrong line, counted
+ * from 1. `from` and `len` are the part of it that is this line without its line feed: the place of its first byte, and its
+ * length. Where the answer is right they are an empty part at its end. */
+struct sagecruet_checked {
+    uint64_t line;
+    size_t from;
+    size_t len;
+};
+
 /* Works a job out on the published tables, from the text of the job to the text of its answer.
  *
  * The answer text is written at the start of `text`, with no zero byte after it, and its length is returned; no other
@@ -210,6 +219,19 @@ struct sagecruet_written sagecruet_job(uint64_t practice, uint64_t nutrient, uin
                                        uint64_t task, uint64_t amount,
                                        const uint64_t *areas, size_t areas_len,
                                        uint8_t *text, size_t text_len);
+
+/* Checks an answer text that somebody else made for a job. It is right exactly when it is, byte for byte, what
+ * sagecruet_answer writes for the job on the published tables; for a job that is refused those are two lines. Else its
+ * first wrong line is the first that is not the same line of the right answer, both with their line feed:
+ *
+ *   - where `claimed` stops after whole right lines, it is the one that is missing, an empty part at the end, and `from` is
+ *     `claimed_len`, as it is of no other wrong line;
+ *   - a line without its line feed is wrong, and its part runs to the end;
+ *   - where more bytes stand behind a right answer, it begins there.
+ *
+ * So a leading zero, a space or a carriage return makes a line wrong. Both texts may have any bytes and any length: a job
+ * of more than 4,096 bytes is checked against its refusal too. Nothing is refused. */
+struct sagecruet_checked sagecruet_check(const uint8_t *job, size_t job_len, const uint8_t *claimed, size_t claimed_len);
 
 /* Rewrites a stored job in its place: C for each soil U; the length and every other byte stay. It is for jobs that were
  * stored while U counted as C for runoff too: rewritten, each gets the answer that it got then. A job that is refused 1,

@@ -17,9 +17,9 @@ REFUSALS says what the numbers given back mean; a job that cannot be written rai
 of BASES, says how the percent beside it was found.
 
 The functions call the proved library, a shared object for x86-64 Linux. Where it cannot be loaded, answer and answer_text go
-by the program creditrun, on the published tables, and rewrite by the program rewriterun; job goes by the program entry, which
-calls the library, and curve and plot by entry and creditrun. The rest raises Unavailable, which says why and what to do.
-backend() says which answers a job: library or program. bindings/python/README.md says more.
+by the program creditrun, on the published tables, and rewrite by the program rewriterun; job goes by the program entry and
+check by the program review, which call the library, and curve and plot by entry and creditrun. The rest raises Unavailable,
+which says why and what to do. backend() says which answers a job: library or program. bindings/python/README.md says more.
 """
 
 import ctypes
@@ -33,6 +33,7 @@ import re
 import shlex
 import shutil
 import subprocess
+import tempfile
 from decimal import Decimal, InvalidOperation
 from pathlib import Path
 from typing import NamedTuple
@@ -145,10 +146,10 @@ def _several(what, expected, values):
     return list(values)
 
 
-def _text(job):
-    if not isinstance(job, (str, bytes)):
-        _refuse_kind("job", "a text (str or bytes)", job)
-    return job.encode() if isinstance(job, str) else job
+def _text(text, what="job"):
+    if not isinstance(text, (str, bytes)):
+        _refuse_kind(what, "a text (str or bytes)", text)
+    return text.encode() if isinstance(text, str) else text
 
 
 # ---- Natural units
@@ -335,6 +336,10 @@ class _Written(ctypes.Structure):
     _fields_ = [("answer", ctypes.c_uint64), ("length", ctypes.c_size_t)]
 
 
+class _Check(ctypes.Structure):
+    _fields_ = [("line", ctypes.c_uint64), ("start", ctypes.c_size_t), ("length", ctypes.c_size_t)]
+
+
 class _Value(ctypes.Structure):
     _fields_ = [("answer", ctypes.c_uint64), ("value", ctypes.c_uint64)]
 
@@ -351,6 +356,7 @@ def _loaded(place):
         ("answer", text + text, ctypes.c_size_t),
         ("answer_on", text + sheet + text, ctypes.c_size_t),
         ("job", 6 * [ctypes.c_uint64] + listed + text, _Written),
+        ("check", text + text, _Check),
         ("fault", text, _Part),
         ("rewrite", text, None),
         ("sheet", sheet, _Verdict),
@@ -423,17 +429,23 @@ def _command(setting, named):
     return words
 
 
-def _writer():
-    """The command that writes a job from its numbers, or Unavailable with the reason: the C example entry, which calls the
-    library. It is built for x86-64 and runs under an emulator where the processor is another."""
-    named, repository = os.environ.get("SAGECRUET_WRITER", "").strip(), _repository()
+# For each C example that can stand in for the library, the setting that names another command for it.
+_EXAMPLES = {"entry": "SAGECRUET_WRITER", "review": "SAGECRUET_CHECKER"}
+
+
+def _example(program):
+    """The command that writes a job from its numbers, or checks an answer, or Unavailable with the reason: a C example, which
+    calls the library. It is built for x86-64 and runs under an emulator where the processor is another."""
+    setting, repository = _EXAMPLES[program], _repository()
+    named = os.environ.get(setting, "").strip()
     if named:
-        return _command("SAGECRUET_WRITER", named)
+        return _command(setting, named)
     if repository is None:
-        raise Unavailable("this module does not stand in the repository; SAGECRUET_WRITER says how examples/c/entry is started")
-    place = repository / "examples" / "c" / "entry"
+        raise Unavailable(f"this module does not stand in the repository; {setting} says how examples/c/{program} is started")
+    place = repository / "examples" / "c" / program
     if not place.is_file():
-        raise Unavailable(f"the program is not built; `make -C examples/c entry` in {repository} builds it, and the library first")
+        raise Unavailable(f"the program is not built; `make -C examples/c {program}` in {repository} builds it, and the library "
+                          "first")
     return ([] if platform.machine() in _PROCESSORS else _EMULATOR) + [str(place)]
 
 
@@ -444,7 +456,7 @@ def _found(program="creditrun"):
     except Unavailable as error:
         no_library = error
     try:
-        return "program", _writer() if program == "entry" else _program(program)
+        return "program", (_example if program in _EXAMPLES else _program)(program)
     except Unavailable as no_program:
         raise Unavailable(f"no library: {no_library}. No program: {no_program}.") from None
 
@@ -462,6 +474,9 @@ _ANSWER = re.compile((r"answer=0\nload=\d+\ndepth=\d+\ncredit=\d+\nbasis=(?:" + 
 
 # What the program entry prints: with status 0 a job, with status 1 the number of a refusal.
 _WRITTEN = {0: re.compile(rb"practice=[a-z]+\n(?:[a-z]+=[\w,-]+\n){6,}"), 1: re.compile(rb"answer=(?:1|2|3|14)\n")}
+
+# What the program review prints: with status 0 that an answer is right, with status 1 its first wrong line, with its place.
+_CHECKED = {0: re.compile(rb"right\n"), 1: re.compile(rb"line (\d{1,20}) at byte (\d{1,20}) is (?:missing|wrong: ([^\n]*))\n")}
 
 
 def _by_program(command, job, what, fits):
@@ -573,6 +588,40 @@ def answer(job, sheet=None):
     """
     pairs = (line.split("=") for line in answer_text(job, sheet).splitlines())
     return {key: value if key == "basis" else int(value) for key, value in pairs}
+
+
+def check(job, answer):
+    """The check of an answer text that somebody else made for a job: None where it is right, which is where it is byte for byte
+    what the published tables give for the job, or else its first wrong line as (number of the line, from 1, place of its first
+    byte, its bytes). Where the answer stops after whole right lines, that is an empty one at its end. Nothing is refused. A
+    file is read as bytes, `open(name, "rb").read()`: otherwise Python reads CR LF as LF.
+
+    >>> check("practice=basin", "answer=1\\nline=1\\n")
+    >>> check("practice=basin", "answer=1\\nline=2\\n")
+    (2, 9, b'line=2')
+    >>> check("practice=basin", "answer=1\\n")
+    (2, 9, b'')
+    """
+    job, answer = _text(job), _text(answer, "answer")
+    which, found = _found("review")
+    if which == "program":
+        return _by_review(found, job, answer)
+    checked = found.sagecruet_check(job, len(job), answer, len(answer))
+    return (checked.line, checked.start, answer[checked.start:checked.start + checked.length]) if checked.line else None
+
+
+def _by_review(command, job, answer):
+    """What the program review says of two texts, which it is handed as files."""
+    def fits(done):
+        told = done.returncode in _CHECKED and _CHECKED[done.returncode].fullmatch(done.stdout)
+        return told and (done.returncode == 0 or answer.startswith(told[3] or b"", int(told[2])))
+
+    with tempfile.TemporaryDirectory() as folder:
+        files = [Path(folder, "job"), Path(folder, "answer")]
+        for file, text in zip(files, (job, answer)):
+            file.write_bytes(text)
+        told = _CHECKED[1].fullmatch(_by_program(command + list(map(str, files)), b"", "check", fits))
+    return (int(told[1]), int(told[2]), told[3] or b"") if told else None
 
 
 def rewrite(job):

@@ -96,6 +96,18 @@ static void rewritten(char *job)
     answer(job, false);
 }
 
+/* Checks an answer that somebody else made for a job. */
+static void check(const char *job, const char *claimed)
+{
+    struct sagecruet_checked found = sagecruet_check((const uint8_t *)job, strlen(job), (const uint8_t *)claimed, strlen(claimed));
+    if (found.line == 0)
+        puts("  it is right");
+    else if (found.from == strlen(claimed))
+        printf("  line %" PRIu64 " is missing\n", found.line);
+    else
+        printf("  line %" PRIu64 " is wrong: %.*s\n", found.line, (int)found.len, claimed + found.from);
+}
+
 /* Tests the sheet above. */
 static void test(void)
 {
@@ -138,6 +150,9 @@ int main(void)
     static const uint64_t unfit[] = {COM, IMP, ON_C, 257};
     static const uint64_t unknown[] = {COM, IMP, NO_SOIL, 257, COM, PER, ON_U, 300};
     static const uint64_t several[] = {COM, IMP, NO_SOIL, 400, COM, PER, ON_C, 200, COM, PER, ON_B, 150};
+    /* The job at the top of sagecruet.h. */
+    static const char sample[] = "practice=basin\nnutrient=N\nmode=step\nrate=0\ntask=load\namount=0\n"
+                                 "area=ind,imp,-,1013\narea=com,per,C,185\narea=for,per,C,89\n";
     char job[SAGECRUET_JOB_ROOM + 1];
 
     puts("A job for a basin that removes 70 percent of the phosphorus of 2.57 paved acres");
@@ -153,6 +168,10 @@ int main(void)
     puts("The first with 3.00 pervious acres of a soil that is not known, stored when it counted as C");
     write_job(job, P, 39, 70000, unknown, COUNT(unknown));
     rewritten(job);
+    puts("Three answers that consultants made for the nitrogen of a site");
+    check(sample, "answer=0\nload=1568350\ndepth=0\ncredit=0\nbasis=none\nvolume=0\nremoved=0\n");
+    check(sample, "answer=0\nload=1569000\ndepth=0\ncredit=0\nbasis=none\nvolume=0\nremoved=0\n");
+    check(sample, "answer=0\n");
 
     puts("A sheet of our own");
     test();

@@ -1,4 +1,4 @@
-"""Tests of the module sagecruet, and of the examples in it and in README.md:
+"""Tests of the module sagecruet, and of the examples in it, in its README.md and in the repository's:
 
     python3 -m unittest discover -s bindings/python/tests
 
@@ -44,6 +44,9 @@ def text_of(*values):
 
 
 SIZE = text_of(*HEAD, PAVED)
+SIZED = "answer=0\nload=45746\ndepth=36\ncredit=70000\nbasis=between\nvolume=335847600\nremoved=32022\n"
+LOAD = text_of("basin", "N", "step", 0, "load", 0, [("ind", "imp", "-", 1013), ("com", "per", "C", 185), ("for", "per", "C", 89)])
+LOADED = "answer=0\nload=1568350\ndepth=0\ncredit=0\nbasis=none\nvolume=0\nremoved=0\n"
 STORED = text_of(*HEAD, PAVED + [("com", "per", "U", 300)])
 
 
@@ -61,9 +64,17 @@ def rewrites():
         return False
 
 
+def checks():
+    try:
+        return sagecruet.check("", "answer=1\nline=1\n") is None
+    except sagecruet.Unavailable:
+        return False
+
+
 needs_answers = unittest.skipIf(sagecruet.backend() is None, "neither the library nor the program is there")
 needs_rewriting = unittest.skipIf(not rewrites(), "neither the library nor the program rewriterun is there")
 needs_writing = unittest.skipIf(not writes(), "neither the library nor the program entry is there")
+needs_checking = unittest.skipIf(not checks(), "neither the library nor the program review is there")
 needs_library = unittest.skipIf(sagecruet.backend() != "library", "the library cannot be loaded here")
 needs_repository = unittest.skipIf(not IN_REPOSITORY, "the module does not stand in the repository")
 
@@ -79,11 +90,23 @@ def examples_need(test):
         raise unittest.SkipTest("neither the library nor the program entry is there")
     if name in ("rewrite", "md") and not rewrites():
         raise unittest.SkipTest("neither the library nor the program rewriterun is there")
+    if name in ("check", "md") and not checks():
+        raise unittest.SkipTest("neither the library nor the program review is there")
+
+
+def in_the_repository(test):
+    """The examples of the repository's README.md, which name files of it."""
+    examples_need(test)
+    test.globs.update(sagecruet=sagecruet, before=os.getcwd())
+    os.chdir(ROOT)
 
 
 def load_tests(loader, tests, pattern):
     tests.addTests(doctest.DocTestSuite(sagecruet, setUp=examples_need))
     tests.addTests(doctest.DocFileSuite(str(HERE.parent / "README.md"), module_relative=False, setUp=examples_need))
+    if IN_REPOSITORY:
+        tests.addTests(doctest.DocFileSuite(str(ROOT / "README.md"), module_relative=False, setUp=in_the_repository,
+                                            tearDown=lambda test: os.chdir(test.globs["before"])))
     return tests
 
 
@@ -427,6 +450,99 @@ class Answers(unittest.TestCase):
         self.assertEqual(sagecruet.ROOM, len(longest) + max(len(f"basis={word}\n") for word in sagecruet.BASES))
 
 
+class Checking(unittest.TestCase):
+    def checked(self, job, answer, expected):
+        """A check gives a line with its place, from and to, or None where nothing is expected; both texts stay as they are."""
+        kept = bytearray(job), bytearray(answer)
+        with self.subTest(job=job[:200], answer=answer[:200]):
+            came = sagecruet.check(job, answer)
+            self.assertEqual(came and (came[0], came[1], came[1] + len(came[2])), expected)
+            self.assertTrue(came is None or answer.startswith(came[2], came[1]))
+            self.assertTrue(kept == (job, answer))
+
+    @needs_checking
+    def test_answers_to_the_sample(self):
+        right = LOADED.encode()
+        for answer, expected in (
+            (right, None),
+            (b"", (1, 0, 0)),
+            (b"answer=0\n", (2, 9, 9)),
+            (b"answer=0", (1, 0, 8)),
+            (right[:-1], (7, 59, 68)),
+            (right + b"x", (8, 69, 70)),
+            (right + b"\n", (8, 69, 69)),
+            (2 * right, (8, 69, 77)),
+            (right.replace(b"1568350", b"1569000"), (2, 9, 21)),
+            (right.replace(b"1568350", b"01568350"), (2, 9, 22)),
+            (right.replace(b"\n", b"\r\n"), (1, 0, 9)),
+            (right.replace(b"basis=none\n", b""), (5, 39, 47)),
+            (right.replace(b"none", b"held"), (5, 39, 49)),
+            (b"\n" + right, (1, 0, 0)),
+            (b"answer=1\nline=0\n", (1, 0, 8)),
+        ):
+            self.checked(LOAD.encode(), answer, expected)
+
+    @needs_checking
+    def test_answers_to_a_refused_job(self):
+        areas = [("com", "imp", "-", 400), ("com", "per", "c", 200)]
+        refused = text_of("trench", "P", "step", 40, "credit", 1500000000, areas).encode()
+        for answer, expected in (
+            (b"answer=1\nline=8\n", None),
+            (b"answer=1\nline=7\n", (2, 9, 15)),
+            (b"answer=1\n", (2, 9, 9)),
+            (b"answer=1\nline=8\nload=0\n", (3, 16, 22)),
+        ):
+            self.checked(refused, answer, expected)
+        for job, answer in ((b"", b"answer=1\nline=1\n"), (5000 * b"x", b"answer=1\nline=0\n"),
+                            (SIZE.replace("39", "0").encode(), b"answer=7\nline=0\n")):
+            self.checked(job, answer, None)
+
+    @needs_checking
+    def test_any_bytes(self):
+        right = LOADED.encode()
+        for answer, expected in (
+            (b"\0", (1, 0, 1)),
+            (right + b"\0", (8, 69, 70)),
+            (right.replace(b"depth=0", b"depth=\0"), (3, 22, 29)),
+            (right.replace(b"1568350", b"\xff\xfe"), (2, 9, 16)),
+            (b"\xef\xbb\xbf" + right, (1, 0, 11)),
+        ):
+            self.checked(LOAD.encode(), answer, expected)
+        for job in (b"\0\0", b"\xff\n" + LOAD.encode()):
+            self.checked(job, b"answer=1\nline=1\n", None)
+
+    @needs_checking
+    def test_any_length(self):
+        many, right = 10_000_000, LOADED.encode()
+        self.checked(LOAD.encode(), many * b"x", (1, 0, many))
+        self.checked(LOAD.encode(), many * b"\n", (1, 0, 0))
+        self.checked(LOAD.encode(), right + many * b"\0", (8, 69, 69 + many))
+        self.checked(many * b"x", b"answer=1\nline=0\n", None)
+
+    @needs_checking
+    def test_a_str_counts_as_its_bytes(self):
+        for job in (LOAD, LOAD.encode()):
+            for answer, expected in (
+                (LOADED, None), (LOADED + "x", (8, 69, b"x")), ("answer=0\nload=\u00fc\n", (2, 9, b"load=\xc3\xbc")),
+            ):
+                self.assertEqual(sagecruet.check(job, answer), expected)
+                self.assertEqual(sagecruet.check(job, answer.encode()), expected)
+
+    @needs_checking
+    @needs_answers
+    @needs_repository
+    def test_our_own_answers_are_right(self):
+        for path in sorted((ROOT / "jobs").glob("*.job")):
+            with self.subTest(job=path.name):
+                self.assertIsNone(sagecruet.check(path.read_bytes(), sagecruet.answer_text(path.read_bytes())))
+
+    def test_wrong_kinds(self):
+        for wrong in (None, 5, ["answer=0"], bytearray(b"answer=0"), Path("jobs/sample.job"), {"answer": 0}):
+            with self.subTest(wrong=wrong):
+                self.assertRaisesRegex(TypeError, r"^job: expected a text \(str or bytes\)", sagecruet.check, wrong, LOADED)
+                self.assertRaisesRegex(TypeError, r"^answer: expected a text \(str or bytes\)", sagecruet.check, LOAD, wrong)
+
+
 class Rewriting(unittest.TestCase):
     @needs_rewriting
     def test_each_U_becomes_C_and_nothing_else_changes(self):
@@ -713,7 +829,7 @@ class WhatIsThere(unittest.TestCase):
                 with self.subTest(call=number), self.machine("aarch64"):
                     self.assertRaisesRegex(module.Unavailable, "is for x86-64 and this processor is aarch64", call)
             for call in (lambda: module.answer(SIZE), lambda: module.answer_text(SIZE), lambda: module.curve("sand", "P"),
-                         lambda: module.rewrite(STORED), lambda: module.job(*HEAD, PAVED)):
+                         lambda: module.rewrite(STORED), lambda: module.job(*HEAD, PAVED), lambda: module.check(SIZE, SIZED)):
                 self.assertRaisesRegex(module.Unavailable, "^no library: .* No program: ", call)
             self.assertRaisesRegex(module.Unavailable, 'set SAGECRUET_REWRITER to "FOLDER/run --rewrite"', module.rewrite, STORED)
 
@@ -820,6 +936,53 @@ class WhatIsThere(unittest.TestCase):
                 with mock.patch.dict(os.environ, SAGECRUET_WRITER=f"'{folder}/mine'"):
                     words = f"gave no job and ended with {words}; .* the terminal"
                     self.assertRaisesRegex(module.Unavailable, words, module.job, *HEAD, PAVED)
+
+    def test_the_checker_of_the_repository_checks(self):
+        for machine, before in (("x86_64", []), ("aarch64", sagecruet._EMULATOR)):
+            with self.repository() as (module, folder), self.machine(machine):
+                message = re.escape(f"the program is not built; `make -C examples/c review` in {folder} builds it")
+                self.assertRaisesRegex(module.Unavailable, message, module.check, SIZE, SIZED)
+                place = folder / "examples" / "c" / "review"
+                place.parent.mkdir(parents=True)
+                place.write_text("")
+                handed = []
+
+                def run(command, **_):
+                    handed.extend((command[:-2], [Path(name).read_bytes() for name in command[-2:]]))
+                    return mock.Mock(returncode=1, stdout=b"line 2 at byte 9 is wrong: load=45746\n")
+
+                with mock.patch("subprocess.run", run):
+                    self.assertEqual(module.check(SIZE, SIZED), (2, 9, b"load=45746"))
+                self.assertEqual(handed, [before + [str(place)], [SIZE.encode(), SIZED.encode()]])
+
+    def test_the_checker_that_is_named_comes_first(self):
+        with self.repository(SAGECRUET_CHECKER="sh -c 'echo right'") as (module, _):
+            self.assertIsNone(module.check(SIZE, "answer=0"))
+            with mock.patch.dict(os.environ, SAGECRUET_CHECKER="sh -c 'echo line 1 at byte 8 is missing; exit 1'"):
+                self.assertEqual(module.check(SIZE, "answer=0"), (1, 8, b""))
+            with mock.patch.dict(os.environ, SAGECRUET_CHECKER="no-such-command"):
+                words = "SAGECRUET_CHECKER names a command that is not there, .* 'no-such-command'"
+                self.assertRaisesRegex(module.Unavailable, words, module.check, SIZE, SIZED)
+
+    def test_what_is_no_check_is_no_check(self):
+        for run, words in (
+            ("exit 2", "status 2"),
+            ("exit 1", "status 1"),
+            ("exit 0", "status 0"),
+            ("echo right; exit 1", "status 1"),
+            ("echo right; echo right", "status 0"),
+            ("printf right", "status 0"),
+            ("echo line 2 at byte 9 is wrong: load=45746", "status 0"),
+            ("echo line 2 at byte 9 is wrong: load=45747; exit 1", "status 1"),
+            ("echo line 2 at byte 8 is wrong: load=45746; exit 1", "status 1"),
+            ("echo line 2 at byte 900 is missing; exit 1", "status 1"),
+            ("echo line 2 at byte 9 is wrong; exit 1", "status 1"),
+            ("echo right; kill -9 $$", "status -9"),
+        ):
+            with self.subTest(run=run), elsewhere([("mine", f"#!/bin/sh\n{run}\n")]) as (module, folder):
+                with mock.patch.dict(os.environ, SAGECRUET_CHECKER=f"'{folder}/mine'"):
+                    words = f"gave no check and ended with {words}; .* the terminal"
+                    self.assertRaisesRegex(module.Unavailable, words, module.check, SIZE, SIZED)
 
     def test_a_refused_job_ends_with_1(self):
         with self.repository(run="#!/bin/sh\nprintf 'answer=10\\nline=0\\n'\nexit 1\n") as (module, _):

@@ -16,6 +16,7 @@ use Rattle.probe.specs.Readings.{given as rateGiven}
 use Rattle.job.specs.declared.Span.{Span}
 use Rattle.writing.specs.declared.Written.{Written}
 use Rattle.writing.specs.Writing.{writtenGiven}
+use Rattle.sagecruet.specs.declared.Check.{Check}
 use Rattle.sagecruet.specs.declared.JobWritten.{JobWritten}
 use Rattle.sagecruet.specs.declared.Part.{Part}
 use Rattle.sagecruet.specs.declared.Verdict.{Verdict}
@@ -33,6 +34,10 @@ ofJob w = record { answer = writtenGiven w .0; len = writtenGiven w .1 }
 -- the place of a part's first byte, and its length
 abbrev pub ofSpan : Span → Part
 ofSpan s = record { from = s .from; len = s .to - s .from }
+
+-- the number of the wrong line, 0 for a yes, with the place of its first byte and its length
+abbrev pub ofCheck : ℕ × Span → Check
+ofCheck (line, place) = record { line = line; from = ofSpan place .from; len = ofSpan place .len }
 
 -- the number of a verdict, with its list and its place
 abbrev pub ofVerdict : SheetVerdict → Verdict

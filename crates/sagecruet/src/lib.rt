@@ -7,13 +7,15 @@ ghost use Rattle.job.specs.Fault.{faultOf};
 ghost use Rattle.answer.specs.Lines.{answerText};
 ghost use Rattle.writing.specs.Writing.{writtenOf, bufferOf};
 ghost use Rattle.calculator.specs.Outcome.{byTables, byLent, outcomeOf};
+ghost use Rattle.review.specs.Checking.{checkOf, given};
 ghost use Rattle.rewrite.specs.Rewriting.{rewrittenOf};
 ghost use Rattle.sagecruet.specs.Codes.{told, codesWritten, codesBuffer};
-ghost use Rattle.sagecruet.specs.Numbers.{ofWritten, ofJob, ofSpan, ofVerdict, ofPercent, ofRate, modeOf, readingIn};
+ghost use Rattle.sagecruet.specs.Numbers.{ofWritten, ofJob, ofSpan, ofCheck, ofVerdict, ofPercent, ofRate, modeOf, readingIn};
 use curve::Mode;
 use probe::RateAnswer;
 use probe::Reading;
 use refusal::Refusal;
+use review::Checked;
 use units::Depth;
 use units::Rate;
 use writing::Written;
@@ -23,6 +25,14 @@ mod codes;
 // A part of a job text: the place of its first byte, and its length.
 #[repr(C)]
 pub struct Part {
+    pub from: usize,
+    pub len: usize,
+}
+
+// The number of the first wrong line of an answer text, 0 where it is right; the place of the line's first byte, and its length.
+#[repr(C)]
+pub struct Check {
+    pub line: u64,
     pub from: usize,
     pub len: usize,
 }
@@ -195,6 +205,26 @@ pub extern "C" fn sagecruet_fault(text: &[u8]) -> Part
     Part {
         from: span.from,
         len: span.to - span.from,
+    }
+}
+
+// An answer text that somebody else made, checked against the one of a job on the published tables.
+#[no_mangle]
+pub extern "C" fn sagecruet_check(text: &[u8], claimed: &[u8]) -> Check
+    ensures { λ r. ⌜ r ≡ ofCheck (given (now (claimed .entry)) (checkOf (now (text .entry)) (now (claimed .entry)))) ⌝ }
+{
+    let found = review::check(text, claimed);
+    match found {
+        Checked::Right => Check {
+            line: 0,
+            from: claimed.len(),
+            len: 0,
+        },
+        Checked::Wrong { line, from, to } => Check {
+            line: line as u64,
+            from,
+            len: to - from,
+        },
     }
 }
 
