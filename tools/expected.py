@@ -49,14 +49,21 @@ refusal). In this order:
         of crediting the volume V(DEPTH) on a site of one commercial impervious acre (area 100); then the answer of
         sizing on that site with the printed percent for the target
 
+    check LINE FROM TO
+        the check of a claimed answer text: the number of its first wrong line, counted from 1, and where in the text that line begins
+        and ends, its line feed left out; for a text that is right 0 and twice its end. CLAIMED has the texts, for the load job of
+        the rules, then for jobs/refused-1.job, whose eighth line has a soil that there is not, then for a job of 5,000 bytes
+
     written ANSWER LENGTH
         the writing of a job, and behind this line the text itself, as it was written: LENGTH bytes, whose last is a line feed.
         JOBS has the nine jobs, the practices 0 to 8 and the land uses 0 to 8 in turn. The site of each has seven sub-areas of its
         land use, pervious on the soils 0 to 5 in turn and then impervious; AREAS has their areas, which come to 1,000,000
 """
 
+import re
 import struct
 from fractions import Fraction
+from itertools import zip_longest
 from math import ceil, floor
 from typing import NamedTuple
 
@@ -108,6 +115,18 @@ JOBS = (
     ("swale", "P", "step", 10_203_040_506_070, "size", 99_999_999_999_999, "ag"),
 )
 AREAS = (1, 20, 300, 4_000, 50_000, 600_000, 345_679)
+
+# what is claimed to be the answer of the load job of the rules, of jobs/refused-1.job and of a job of 5,000 bytes
+SAMPLE = "answer=0\nload=1568350\ndepth=0\ncredit=0\nbasis=none\nvolume=0\nremoved=0\n"
+CLAIMED = (
+    (
+        SAMPLE, "", "answer=0\n", "answer=0", SAMPLE[:-1], SAMPLE + "x", SAMPLE + "\n", SAMPLE + SAMPLE,
+        SAMPLE.replace("=1568350", "=1569000"), SAMPLE.replace("=1568350", "=01568350"), SAMPLE.replace("\n", "\r\n"),
+        SAMPLE.replace("basis=none\n", ""), SAMPLE.replace("=none", "=held"), "\n" + SAMPLE, "answer=1\nline=0\n",
+    ),
+    ("answer=1\nline=8\n", "answer=1\nline=7\n", "answer=1\n", "answer=1\nline=8\nload=0\n"),
+    ("answer=1\nline=0\n",),
+)
 
 
 def load_column(soil):
@@ -286,6 +305,31 @@ def written_jobs():
             yield (line,)
 
 
+def lines_of(text):
+    """The lines of a text, each with its LF if it has one."""
+    return re.findall("[^\n]*\n|[^\n]+", text)
+
+
+def checked(right, claimed):
+    """The number of the first line of a claimed text that is not the same line of the right one, where it begins and where it ends."""
+    begin = 0
+    for number, (ours, theirs) in enumerate(zip_longest(lines_of(right), lines_of(claimed), fillvalue=""), 1):
+        if ours != theirs:
+            return number, begin, begin + len(theirs.rstrip("\n"))
+        begin += len(theirs)
+    return 0, begin, begin
+
+
+def checks(load):
+    """The checks, where the load job of the rules has this load."""
+    granted = ("answer", 0), ("load", load), ("depth", 0), ("credit", 0), ("basis", BASES[0]), ("volume", 0), ("removed", 0)
+    malformed, too_long = (("answer", 1), ("line", 8)), (("answer", 1), ("line", 0))
+    for values, texts in zip((granted, malformed, too_long), CLAIMED):
+        right = "".join(f"{key}={value}\n" for key, value in values)
+        for text in texts:
+            yield "check", *checked(right, text)
+
+
 def first_break(depths, rates, percents):
     """The test of a sheet whose lengths are right: (0, 0, 0), or 5 with the list and the place."""
     for number, values, most in ((1, depths, 200), (2, [] if rates == [0] else rates, 10_000)):
@@ -333,7 +377,8 @@ def output(document):
 
     rates = {n: document.export_rates(n) for n in NUTRIENTS}
     sample = [("ind", None, 1013), ("com", "C", 185), ("for", "C", 89)]
-    yield "sample", 0, sum(area * export_rate(rates["N"], use, soil) for use, soil, area in sample)
+    sample_load = sum(area * export_rate(rates["N"], use, soil) for use, soil, area in sample)
+    yield "sample", 0, sample_load
     for n, nutrient in enumerate(NUTRIENTS):
         for u, use in enumerate(LAND_USES):
             for s, soil in enumerate(SOILS + (None,)):
@@ -365,6 +410,7 @@ def output(document):
                             0, reached, credit, basis(sheet, mode, rate, reached), load * credit // FULL,
                             0, least, sized, basis(sheet, mode, rate, least), volume(rows, acre, least), load * sized // FULL,
                         )
+    yield from checks(sample_load)
     yield from written_jobs()
 
 

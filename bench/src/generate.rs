@@ -1,4 +1,4 @@
-//! Inputs made from a seed: job texts, jobs as values, sheets and readings, valid and damaged, short and long.
+//! Inputs made from a seed: job texts, jobs as values, claimed answers, sheets and readings, valid and damaged, short and long.
 
 use crate::random::Random;
 use crate::tables::PUBLISHED;
@@ -247,6 +247,29 @@ fn with_line_harmed(random: &mut Random, text: &[u8], kind: u64) -> Vec<u8> {
         }
     }
     lines.concat()
+}
+
+/// What somebody claims to be an answer text: the right one, that one cut, harmed or lengthened, or the one of another job.
+pub fn claimed(random: &mut Random, right: &[u8], another: &[u8]) -> Vec<u8> {
+    let mut text = right.to_vec();
+    let place = random.below(text.len() as u64) as usize;
+    match random.below(16) {
+        0..=3 => {}
+        4 | 5 => text.truncate(place),
+        6 => {
+            // Behind one of its line feeds, or to nothing.
+            text.truncate(right[..place].iter().rposition(|&byte| byte == b'\n').map_or(0, |at| at + 1))
+        }
+        7 => drop(text.pop()),
+        8 | 9 => text[place] ^= 1 << random.below(8),
+        10 => text = harm(random, text),
+        11 => text.push(random.pick(b"\n\r\0 x")),
+        12 => text.extend_from_slice(random.pick(&[right, b"load=0\n", b"line=0\n"])),
+        13 => text = another.to_vec(),
+        14 => text = right.split(|&byte| byte == b'\n').collect::<Vec<_>>().join(&b"\r\n"[..]),
+        _ => text.insert(0, b'\n'),
+    }
+    text
 }
 
 /// A sheet that owns its lists.
@@ -521,6 +544,31 @@ mod tests {
         assert!([0, 1, 2, 3, 14].iter().all(|&answer| seen[answer] >= COUNT / 50), "{:?}", seen);
         assert_eq!(seen.iter().filter(|&&count| count > 0).count(), 5, "{:?}", seen);
         assert!(lengths[JOB_ROOM] > 0 && lengths.iter().filter(|&&count| count > 0).count() > 400);
+    }
+
+    /// Of the claimed answers at least one in five is right, one in a hundred wrong in each line that an answer can have and in
+    /// the one behind it, and one in fifty stops after whole right lines; some are empty, and some wrong lines are empty within.
+    #[test]
+    fn claims_meet_each_line() {
+        let mut random = Random::from(8);
+        let (mut lines, mut early, mut nothing, mut within) = ([0; 9], 0, 0, 0);
+        let mut another = Vec::new();
+        for n in 0..COUNT {
+            let job = if n % 4 == 0 { damaged(&mut random) } else { job(&mut random) };
+            let mut text = [0; ROOM];
+            let length = reference::answer(&job, &mut text);
+            let claimed = claimed(&mut random, &text[..length], &another);
+            let found = reference::check(&job, &claimed);
+            lines[found.line as usize] += 1;
+            if found.line > 0 && found.len == 0 {
+                early += (found.from == claimed.len()) as u64;
+                within += (found.from < claimed.len()) as u64;
+            }
+            nothing += claimed.is_empty() as u64;
+            another = text[..length].to_vec();
+        }
+        assert!(lines[0] >= COUNT / 5 && lines.iter().all(|&count| count >= COUNT / 100), "{:?}", lines);
+        assert!(early >= COUNT / 50 && nothing > 0 && within > 0, "{} {} {}", early, nothing, within);
     }
 
     /// At least half of the job texts read, and each that does is written back as it was.

@@ -90,6 +90,22 @@ impl Written {
     }
 }
 
+/// What the check of a claimed answer text answers: 0, or the number of its first wrong line, counted from 1; and where that
+/// line stands in the claimed text, without its line feed. Beside 0 that is an empty part at the end.
+#[repr(C)]
+#[derive(Clone, Copy, Debug, PartialEq, Eq)]
+pub struct Checked {
+    pub line: u64,
+    pub from: usize,
+    pub len: usize,
+}
+
+impl Checked {
+    pub fn yes(claimed: &[u8]) -> Checked {
+        Checked { line: 0, from: claimed.len(), len: 0 }
+    }
+}
+
 /// How a percent was found; nothing was found for a load, or where it is refused.
 #[derive(Clone, Copy, Debug, Default, PartialEq, Eq)]
 pub enum Basis {
@@ -148,7 +164,7 @@ impl PercentAnswer {
     }
 }
 
-/// The eight calls of the C interface, as either side gives them.
+/// The nine calls of the C interface, as either side gives them.
 pub struct Calls {
     pub name: &'static str,
     /// The answer text of a job, on the published tables: its length, or 0 where the buffer is too short.
@@ -165,4 +181,6 @@ pub struct Calls {
     pub rewrite: fn(&mut [u8]),
     /// The text of a job, from its head and its sub-areas.
     pub write: fn(&Head, &[u64], &mut [u8]) -> Written,
+    /// The first wrong line of a text that is claimed to be the answer of a job, on the published tables.
+    pub check: fn(&[u8], &[u8]) -> Checked,
 }

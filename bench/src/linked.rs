@@ -1,12 +1,12 @@
 //! The proved library, through its C interface.
 
-use crate::{Calls, Head, Part, PercentAnswer, Sheet, Value, Verdict, Written};
+use crate::{Calls, Checked, Head, Part, PercentAnswer, Sheet, Value, Verdict, Written};
 
 pub const CALLS: Calls =
-    Calls { name: "the proved library", answer, answer_on, fault, sheet, percent, reading, rewrite, write };
+    Calls { name: "the proved library", answer, answer_on, fault, sheet, percent, reading, rewrite, write, check };
 
 mod c {
-    use crate::{Part, PercentAnswer, Value, Verdict, Written};
+    use crate::{Checked, Part, PercentAnswer, Value, Verdict, Written};
 
     extern "C" {
         pub fn sagecruet_answer(job: *const u8, job_len: usize, text: *mut u8, text_len: usize) -> usize;
@@ -56,6 +56,7 @@ mod c {
             text: *mut u8,
             text_len: usize,
         ) -> Written;
+        pub fn sagecruet_check(job: *const u8, job_len: usize, claimed: *const u8, claimed_len: usize) -> Checked;
     }
 }
 
@@ -142,4 +143,8 @@ pub fn write(head: &Head, areas: &[u64], text: &mut [u8]) -> Written {
             text.len(),
         )
     }
+}
+
+pub fn check(job: &[u8], claimed: &[u8]) -> Checked {
+    unsafe { c::sagecruet_check(job.as_ptr(), job.len(), claimed.as_ptr(), claimed.len()) }
 }

@@ -7,6 +7,11 @@ impl Random {
         Random(seed)
     }
 
+    /// Numbers apart from these, which go on as if none of them had been asked for.
+    pub fn apart(&self) -> Random {
+        Random(!self.0)
+    }
+
     pub fn next(&mut self) -> u64 {
         self.0 = self.0.wrapping_add(0x9e37_79b9_7f4a_7c15);
         let mut z = self.0;

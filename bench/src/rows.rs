@@ -1,10 +1,10 @@
-//! The rows of the vectors: those of jobs.jsonl, sheets.jsonl, readings.jsonl, rewrites.jsonl and writes.jsonl that a folder has,
-//! one record a line.
+//! The rows of the vectors: those of jobs.jsonl, sheets.jsonl, readings.jsonl, rewrites.jsonl, writes.jsonl and checks.jsonl
+//! that a folder has, one record a line.
 
 use std::fs;
 use std::path::Path;
 
-use crate::{Basis, Calls, Head, Part, PercentAnswer, Sheet, Value, Verdict, Written};
+use crate::{Basis, Calls, Checked, Head, Part, PercentAnswer, Sheet, Value, Verdict, Written};
 
 /// As much of JSON as the rows have.
 enum Json {
@@ -136,7 +136,7 @@ fn rows(path: &Path) -> Vec<Json> {
 }
 
 fn bytes_of_hex(hex: &str) -> Vec<u8> {
-    let digit = |b: u8| (b as char).to_digit(16).expect("a job is not hexadecimal") as u8;
+    let digit = |b: u8| (b as char).to_digit(16).expect("a text is not hexadecimal") as u8;
     hex.as_bytes().chunks(2).map(|pair| digit(pair[0]) * 16 + digit(pair[1])).collect()
 }
 
@@ -150,12 +150,13 @@ pub struct Tally {
 /// Whether one side holds a row.
 type Holds = fn(&Calls, &Json) -> bool;
 
-const KINDS: [(&str, Holds); 5] = [
+const KINDS: [(&str, Holds); 6] = [
     ("jobs", job_holds),
     ("sheets", sheet_holds),
     ("readings", reading_holds),
     ("rewrites", rewrite_holds),
     ("writes", write_holds),
+    ("checks", check_holds),
 ];
 
 fn tally(kind: &'static str, path: &Path, calls: &Calls, holds: Holds) -> Tally {
@@ -245,4 +246,11 @@ fn write_holds(calls: &Calls, row: &Json) -> bool {
     expected[..text.len()].copy_from_slice(&text);
     let written = Written { answer: row.number("answer"), len: text.len() };
     (calls.write)(&head, &areas, &mut buffer) == written && buffer == expected
+}
+
+/// The check of a claimed answer text: its first wrong line, from its first byte to the one after its last.
+fn check_holds(calls: &Calls, row: &Json) -> bool {
+    let (job, claimed) = (bytes_of_hex(row.text("job")), bytes_of_hex(row.text("claimed")));
+    let (from, to) = (row.number("from") as usize, row.number("to") as usize);
+    (calls.check)(&job, &claimed) == Checked { line: row.number("line"), from, len: to - from }
 }

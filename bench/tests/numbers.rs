@@ -1,6 +1,6 @@
-//! Rules, "Numbers to hold on to": the numbers that are told there, held by the Rust code.
+//! Rules, "Numbers to hold on to" and "Checking an answer": the numbers that are told there, held by the Rust code.
 
-use bench::{reference, Basis, Part, PercentAnswer, Sheet, Value, Verdict, ROOM};
+use bench::{reference, Basis, Checked, Part, PercentAnswer, Sheet, Value, Verdict, ROOM};
 
 const T: Sheet =
     Sheet { depths: &[20, 60, 100], rates: &[25, 75], percents: &[20000, 50000, 70000, 40000, 65000, 80000] };
@@ -216,4 +216,44 @@ fn the_load_job_and_its_faults() {
     let unended = &job[..job.len() - 1];
     assert_eq!(answer(unended, None), "answer=1\nline=9\n");
     assert_eq!(reference::fault(unended.as_bytes()), Part { from: job.len() - 18, len: 17 });
+}
+
+/// Holds the check of a claimed text to the number of its wrong line and where that line begins and ends; 0 for a yes.
+fn checked(job: &[u8], claimed: &str, line: u64, from: usize, to: usize) {
+    let found = reference::check(job, claimed.as_bytes());
+    assert_eq!(found, Checked { line, from, len: to - from }, "{:?}", claimed);
+}
+
+#[test]
+fn checks_of_the_load_job() {
+    let right = "answer=0\nload=1568350\ndepth=0\ncredit=0\nbasis=none\nvolume=0\nremoved=0\n";
+    let sample = |claimed: &str, line, from, to| {
+        checked(include_bytes!("../../jobs/sample.job"), claimed, line, from, to);
+    };
+    sample(right, 0, 69, 69);
+    sample("", 1, 0, 0);
+    sample("answer=0\n", 2, 9, 9);
+    sample("answer=0", 1, 0, 8);
+    sample("answer=0\nload=1568350\ndepth=0\ncredit=0\nbasis=none\nvolume=0\nremoved=0", 7, 59, 68);
+    sample(&format!("{}x", right), 8, 69, 70);
+    sample(&format!("{}\n", right), 8, 69, 69);
+    sample(&format!("{}{}", right, right), 8, 69, 77);
+    // The 156.9 lb of Example 3-1, and a leading zero.
+    sample("answer=0\nload=1569000\ndepth=0\ncredit=0\nbasis=none\nvolume=0\nremoved=0\n", 2, 9, 21);
+    sample("answer=0\nload=01568350\ndepth=0\ncredit=0\nbasis=none\nvolume=0\nremoved=0\n", 2, 9, 22);
+    sample(&right.replace('\n', "\r\n"), 1, 0, 9);
+    sample("answer=0\nload=1568350\ndepth=0\ncredit=0\nvolume=0\nremoved=0\n", 5, 39, 47);
+    sample("answer=0\nload=1568350\ndepth=0\ncredit=0\nbasis=held\nvolume=0\nremoved=0\n", 5, 39, 49);
+    sample(&format!("\n{}", right), 1, 0, 0);
+    sample("answer=1\nline=0\n", 1, 0, 8);
+}
+
+#[test]
+fn checks_of_refused_jobs() {
+    let malformed = include_bytes!("../../jobs/refused-1.job");
+    checked(malformed, "answer=1\nline=8\n", 0, 16, 16);
+    checked(malformed, "answer=1\nline=7\n", 2, 9, 15);
+    checked(malformed, "answer=1\n", 2, 9, 9);
+    checked(malformed, "answer=1\nline=8\nload=0\n", 3, 16, 22);
+    checked(&[b'x'; 5000], "answer=1\nline=0\n", 0, 16, 16);
 }

@@ -11,7 +11,9 @@ fn main() -> ExitCode {
     let folder = match std::env::args().nth(1) {
         Some(folder) => folder,
         None => {
-            eprintln!("baseline FOLDER: a folder of jobs, sheets, readings, rewrites or writes, each a file .jsonl");
+            eprintln!(
+                "baseline FOLDER: a folder of jobs, sheets, readings, rewrites, writes or checks, each a file .jsonl"
+            );
             return ExitCode::FAILURE;
         }
     };

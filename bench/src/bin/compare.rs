@@ -5,8 +5,8 @@
 //! Every byte of what is lent is compared: the answer's buffer, with the bytes after the text and about the buffer; the job
 //! and the sheet, which no answer may change; and the buffer of a rewritten job, with the bytes about it. Our answer to a
 //! rewritten job is compared with the one that the old rules gave to the job. The values of a job text that reads are written
-//! back by both sides. Besides, a quarter as many jobs are made as values and written, and what was written is read back. The
-//! exit status is 1 where anything differs.
+//! back by both sides. For a job without a sheet of its own two claimed answer texts are checked. Besides, a quarter as many
+//! jobs are made as values and written, and what was written is read back. The exit status is 1 where anything differs.
 
 use std::path::Path;
 use std::process::ExitCode;
@@ -50,6 +50,11 @@ struct Seen {
     /// How many job texts read and were written back from their values, and how many written texts read back.
     written_back: u64,
     read_back: u64,
+    /// How many claimed answer texts were wrong in each line, and right (0); and how many stopped after whole right lines.
+    checks: [u64; 9],
+    stopped_early: u64,
+    /// The answer text of the job before.
+    another: Vec<u8>,
 }
 
 impl Count {
@@ -141,6 +146,28 @@ fn writing_back_differs(seen: &mut Seen, job: &[u8]) -> Option<String> {
     })
 }
 
+/// What differs in the checks of two texts that are claimed for a job that is answered `right`, if anything does.
+fn checks_differ(seen: &mut Seen, random: &mut Random, job: &[u8], right: &[u8]) -> Option<String> {
+    let mut differing = None;
+    for _ in 0..2 {
+        let claimed = generate::claimed(random, right, &seen.another);
+        // Behind a text that stops early stands the rest of the right one, which is no part of it.
+        let length = claimed.len();
+        let buffer = [&claimed[..], &right[length.min(right.len())..], &[b'\n'; MARGIN]].concat();
+        let copy = buffer.clone();
+        let ours = linked::check(job, &buffer[..length]);
+        let theirs = reference::check(job, &buffer[..length]);
+        seen.checks[theirs.line as usize] += 1;
+        seen.stopped_early += (theirs.line > 0 && theirs.from == length) as u64;
+        if ours != theirs || buffer != copy {
+            let check = format!("; \"{}\" checked {:?}, and by the Rust code {:?}", shown(&claimed), ours, theirs);
+            differing = Some(check);
+        }
+    }
+    seen.another = right.to_vec();
+    differing
+}
+
 fn compare_job(seen: &mut Seen, random: &mut Random, job: Vec<u8>, lent: Option<&OwnSheet>) {
     let sheet = lent.map(OwnSheet::lend);
     let (copy, sheet_copy) = (job.clone(), lent.cloned());
@@ -153,6 +180,10 @@ fn compare_job(seen: &mut Seen, random: &mut Random, job: Vec<u8>, lent: Option<
     seen.longest = seen.longest.max(job.len());
     let rewriting = rewriting_differs(seen, &job, sheet, &whole[..length]);
     let writing = writing_back_differs(seen, &job);
+    let check = match lent {
+        None => checks_differ(seen, &mut random.apart(), &job, &whole[..length]),
+        Some(_) => None,
+    };
     let room = match random.below(6) {
         0 => random.below(length as u64 + 1) as usize,
         1 => length,
@@ -168,9 +199,9 @@ fn compare_job(seen: &mut Seen, random: &mut Random, job: Vec<u8>, lent: Option<
     let (our_part, their_part) = (linked::fault(&job), reference::fault(&job));
     let kept = job == copy && lent == sheet_copy.as_ref();
     let same = our_length == their_length && ours == theirs && our_part == their_part;
-    seen.inputs.note(same && kept && rewriting.is_none() && writing.is_none(), || {
+    seen.inputs.note(same && kept && rewriting.is_none() && writing.is_none() && check.is_none(), || {
         format!(
-            "job \"{}\" with {:?} and room {}: {} \"{}\" {:?}, and the Rust code {} \"{}\" {:?}{}{}",
+            "job \"{}\" with {:?} and room {}: {} \"{}\" {:?}, and the Rust code {} \"{}\" {:?}{}{}{}",
             shown(&copy),
             sheet_copy,
             room,
@@ -181,7 +212,8 @@ fn compare_job(seen: &mut Seen, random: &mut Random, job: Vec<u8>, lent: Option<
             shown(&theirs[MARGIN..MARGIN + their_length]),
             their_part,
             rewriting.unwrap_or_default(),
-            writing.unwrap_or_default()
+            writing.unwrap_or_default(),
+            check.unwrap_or_default()
         )
     });
 }
@@ -335,6 +367,13 @@ fn main() -> ExitCode {
         seen.rewritten, seen.answered_otherwise, seen.left
     );
     println!("job texts that read: {} written back from their values", seen.written_back);
+    println!(
+        "claimed answer texts: {} right, {} wrong, {} of them stop after whole right lines",
+        seen.checks[0],
+        seen.checks[1..].iter().sum::<u64>(),
+        seen.stopped_early
+    );
+    println!("  lines given back, by checks: {}", told(&seen.checks));
     println!("{} jobs as values compared, {} differed", seen.values.compared, seen.values.differed);
     println!("numbers given back, by writing: {}; texts read back: {}", told(&seen.writes), seen.read_back);
     let mut whole = seen.inputs.differed == 0 && seen.values.differed == 0;

@@ -6,14 +6,15 @@
 //!
 //! A job of the kinds load, credit, size and refused is answered, from its text to its answer text; one of the kinds write-3
 //! and write-32 is written, from its values to its text. The caller lends one buffer for that to every run, and clears it
-//! for none.
+//! for none. For the kinds check-load, check-credit, check-size and check-refused the right answer of that job is checked, for
+//! check-100 and check-10000000 a text of so many bytes whose first line, a short one, is wrong.
 
 use std::time::Instant;
 
 use bench::generate::longest;
 #[cfg(feature = "linked")]
 use bench::linked;
-use bench::{reference, Head, Written, JOB_ROOM};
+use bench::{reference, Checked, Head, Written, JOB_ROOM, ROOM};
 
 /// The job text of a kind: the load job of jobs/sample.job, the same with a land use that does not exist in its
 /// last line, or a credit or a sizing on 32 sub-areas of every land use and soil.
@@ -60,28 +61,50 @@ fn values(kind: &str) -> Option<(Head, Vec<u64>)> {
     }
 }
 
+/// The job of a kind of check and what is claimed to be its answer.
+fn claimed(kind: &str) -> Option<(Vec<u8>, Vec<u8>)> {
+    let word = kind.strip_prefix("check-")?;
+    if let Ok(length) = word.parse() {
+        let mut claimed = vec![0; length];
+        claimed[..9].copy_from_slice(b"answer=1\n");
+        return Some((text("load").into_bytes(), claimed));
+    }
+    let job = text(word).into_bytes();
+    let mut claimed = vec![0; ROOM];
+    let length = reference::answer(&job, &mut claimed);
+    claimed.truncate(length);
+    Some((job, claimed))
+}
+
 type Answer = fn(&[u8], &mut [u8]) -> usize;
 type Write = fn(&Head, &[u64], &mut [u8]) -> Written;
+type Check = fn(&[u8], &[u8]) -> Checked;
 
-/// A call of one side and what it is given: the text of a job to be answered, or the values of one to be written.
+/// A call of one side and what it is given: the text of a job to be answered, the values of one to be written, or the text of a
+/// job and one that is claimed to be its answer.
 enum Work {
     Answer(Answer, Vec<u8>),
     Write(Write, Head, Vec<u64>),
+    Check(Check, Vec<u8>, Vec<u8>),
 }
 
 impl Work {
-    fn of(kind: &str, answer: Answer, write: Write) -> Work {
-        match values(kind) {
-            Some((head, areas)) => Work::Write(opaque(write), head, areas),
-            None => Work::Answer(opaque(answer), text(kind).into_bytes()),
+    fn of(kind: &str, answer: Answer, write: Write, check: Check) -> Work {
+        if let Some((head, areas)) = values(kind) {
+            return Work::Write(opaque(write), head, areas);
         }
+        if let Some((job, claimed)) = claimed(kind) {
+            return Work::Check(opaque(check), job, claimed);
+        }
+        Work::Answer(opaque(answer), text(kind).into_bytes())
     }
 
-    /// The length of the text that is written into `room`.
+    /// The length of the text that is written into `room`, or of the line that is wrong.
     fn run(&self, room: &mut [u8]) -> usize {
         match self {
             Work::Answer(answer, job) => answer(job, room),
             Work::Write(write, head, areas) => write(head, areas, room).len,
+            Work::Check(check, job, claimed) => check(job, claimed).len,
         }
     }
 }
@@ -141,10 +164,10 @@ fn main() {
     let words: Vec<&str> = words.iter().map(|word| word.as_str()).collect();
     let (work, asked) = match words[..] {
         #[cfg(feature = "linked")]
-        ["ours", kind, asked] => (Work::of(kind, linked::answer, linked::write), asked),
-        ["rust", kind, asked] => (Work::of(kind, reference::answer, reference::write), asked),
+        ["ours", kind, asked] => (Work::of(kind, linked::answer, linked::write, linked::check), asked),
+        ["rust", kind, asked] => (Work::of(kind, reference::answer, reference::write, reference::check), asked),
         ["text", kind] => return print!("{}", text(kind)),
-        _ => panic!("measure ours|rust load|credit|size|refused|write-3|write-32 COUNT|stack, or measure text KIND"),
+        _ => panic!("measure ours|rust KIND COUNT|stack, or measure text KIND"),
     };
     if asked == "stack" {
         return println!("{}", stack(&work));

@@ -1,6 +1,7 @@
 //! The calculator in Rust.
 
 mod answer;
+mod check;
 mod curve;
 mod job;
 mod probe;
@@ -11,6 +12,7 @@ mod write;
 use crate::tables::PUBLISHED;
 use crate::{Calls, Head, Part, PercentAnswer, Sheet, Value, Verdict};
 use answer::{Figures, Outcome};
+pub use check::check;
 use curve::Curve;
 use job::{Job, Task};
 pub use rewrite::rewrite;
@@ -21,9 +23,11 @@ const LARGEST: u64 = 10_000_000_000_000;
 const MOST_PERCENT: u64 = 100_000;
 
 pub const CALLS: Calls =
-    Calls { name: "the Rust code", answer, answer_on, fault, sheet, percent, reading, rewrite, write };
+    Calls { name: "the Rust code", answer, answer_on, fault, sheet, percent, reading, rewrite, write, check };
 
-/// The answer text of a job on the published tables, written into `text`: its length, or 0 where it does not fit.
+/// The answer text of a job on the published tables, written into `text`: its length, or 0 where it does not fit. It is kept
+/// whole, since with the check for a second caller the compiler would cut it up otherwise, and it would measure slower.
+#[inline(never)]
 pub fn answer(job: &[u8], text: &mut [u8]) -> usize {
     outcome(job, None, UNKNOWN_FOR_RUNOFF).write(text)
 }

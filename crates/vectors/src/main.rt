@@ -1,7 +1,7 @@
-// Rules, "Numbers to hold on to", "Numbers of sub-areas" and "Writing a job": runs the numbers that are told there, volumes on a soil
-// that is not known, a run of adds and removals, every entry of the published tables and the writing of jobs through the library, and
-// prints what each gives. The stored output was made from document 001 and the rules without the library, and tools/expected.py says
-// what each line holds.
+// Rules, "Numbers to hold on to", "Numbers of sub-areas", "Writing a job" and "Checking an answer": runs the numbers that are told
+// there, volumes on a soil that is not known, a run of adds and removals, every entry of the published tables, checks of claimed
+// answers and the writing of jobs through the library, and prints what each gives. The stored output was made from document 001 and
+// the rules without the library, and tools/expected.py says what each line holds.
 use credit::CreditAnswer;
 use credit::Wanted;
 use curve::Mode;
@@ -14,6 +14,7 @@ use probe::RateAnswer;
 use probe::Reading;
 use published::Place;
 use refusal::Refusal;
+use review::Checked;
 use runoff::RunoffAnswer;
 use sheet::Verdict;
 use site::AreaAnswer;
@@ -545,6 +546,104 @@ fn points() {
     }
 }
 
+// The check of an answer text that is claimed for a job: 0 and the end of the text where it is right.
+fn say_check(job: &[u8], claimed: &[u8]) {
+    let end = claimed.len() as u64;
+    let found = review::check(job, claimed);
+    match found {
+        Checked::Right => say(b"check", &[0, end, end]),
+        Checked::Wrong { line, from, to } => {
+            say(b"check", &[line as u64, from as u64, to as u64]);
+        }
+    }
+}
+
+// The answer of a load job, and the same cut short.
+fn checks_cut(job: &[u8]) {
+    say_check(
+        job,
+        b"answer=0\nload=1568350\ndepth=0\ncredit=0\nbasis=none\nvolume=0\nremoved=0\n",
+    );
+    say_check(job, b"");
+    say_check(job, b"answer=0\n");
+    say_check(job, b"answer=0");
+    say_check(
+        job,
+        b"answer=0\nload=1568350\ndepth=0\ncredit=0\nbasis=none\nvolume=0\nremoved=0",
+    );
+}
+
+// The same with more behind it.
+fn checks_longer(job: &[u8]) {
+    say_check(
+        job,
+        b"answer=0\nload=1568350\ndepth=0\ncredit=0\nbasis=none\nvolume=0\nremoved=0\nx",
+    );
+    say_check(
+        job,
+        b"answer=0\nload=1568350\ndepth=0\ncredit=0\nbasis=none\nvolume=0\nremoved=0\n\n",
+    );
+    say_check(
+        job,
+        b"answer=0\nload=1568350\ndepth=0\ncredit=0\nbasis=none\nvolume=0\nremoved=0\nanswer=0\nload=1568350\ndepth=0\ncredit=0\nbasis=none\nvolume=0\nremoved=0\n",
+    );
+}
+
+// The same with another number, a leading zero and other line ends.
+fn checks_harmed(job: &[u8]) {
+    say_check(
+        job,
+        b"answer=0\nload=1569000\ndepth=0\ncredit=0\nbasis=none\nvolume=0\nremoved=0\n",
+    );
+    say_check(
+        job,
+        b"answer=0\nload=01568350\ndepth=0\ncredit=0\nbasis=none\nvolume=0\nremoved=0\n",
+    );
+    say_check(
+        job,
+        b"answer=0\r\nload=1568350\r\ndepth=0\r\ncredit=0\r\nbasis=none\r\nvolume=0\r\nremoved=0\r\n",
+    );
+}
+
+// The same with a line left out, a word for another and a line feed before it, and a refusal.
+fn checks_other(job: &[u8]) {
+    say_check(
+        job,
+        b"answer=0\nload=1568350\ndepth=0\ncredit=0\nvolume=0\nremoved=0\n",
+    );
+    say_check(
+        job,
+        b"answer=0\nload=1568350\ndepth=0\ncredit=0\nbasis=held\nvolume=0\nremoved=0\n",
+    );
+    say_check(
+        job,
+        b"\nanswer=0\nload=1568350\ndepth=0\ncredit=0\nbasis=none\nvolume=0\nremoved=0\n",
+    );
+    say_check(job, b"answer=1\nline=0\n");
+}
+
+// The load job of the rules.
+fn checks_of_sample() {
+    let job =
+        b"practice=basin\nnutrient=N\nmode=step\nrate=0\ntask=load\namount=0\narea=ind,imp,-,1013\narea=com,per,C,185\narea=for,per,C,89\n";
+    checks_cut(job);
+    checks_longer(job);
+    checks_harmed(job);
+    checks_other(job);
+}
+
+// A job whose eighth line is malformed, and one that is too long.
+fn checks_of_refused() {
+    let job =
+        b"practice=trench\nnutrient=P\nmode=step\nrate=40\ntask=credit\namount=1500000000\narea=com,imp,-,400\narea=com,per,c,200\n";
+    say_check(job, b"answer=1\nline=8\n");
+    say_check(job, b"answer=1\nline=7\n");
+    say_check(job, b"answer=1\n");
+    say_check(job, b"answer=1\nline=8\nload=0\n");
+    let long = [b'x'; 5000];
+    say_check(&long, b"answer=1\nline=0\n");
+}
+
 // A site of seven sub-areas of a land use: pervious on each soil, and impervious.
 fn every_ground(land: LandUse) -> Site {
     let a = with(site::empty(), land, Cover::Per, Soil::A, 1);
@@ -640,5 +739,7 @@ fn main() {
     loads_of(Nutrient::N);
     run();
     points();
+    checks_of_sample();
+    checks_of_refused();
     written();
 }
