@@ -20,6 +20,7 @@ use Rattle.job.specs.Fault.{lineSpan}
 use Rattle.review.specs.declared.Checked.{Checked}
 use Rattle.review.specs.declared.Checked.the-variants.{Right, Wrong}
 use Rattle.review.specs.Checking.{wrongLine, wrongAt, checkedOf, checkOf, given, wrongSpan}
+use Rattle.review.specs.Inner.{wrongBehind}
 use Rattle.review.proofs.Ends.{end-onward}
 use Rattle.review.proofs.Parting.{agreed-longer}
 
@@ -29,7 +30,7 @@ pub line-told : (claimed : List ℕ) (agreed ended : ℕ) {front : List ℕ} {fr
     → ended + 1 ≡ length (pieces lineFeed front)
     → from ≡ startOf lineFeed claimed ended
     → to ≡ nextOf lineFeed claimed from
-    → Wrong (ended + 1) from to ≡ wrongAt claimed (length (pieces lineFeed (partOf claimed 0 agreed)))
+    → Wrong (ended + 1) from to ≡ wrongBehind claimed agreed
 unfolding lineSpan
 line-told claimed agreed ended {front} p n f t = rw (← p, ← n, add-one ended, t, f)
 
@@ -65,7 +66,7 @@ agreed-whole (x ∷ s) (y ∷ t) h k = at (eqb x y) h k (agreed-whole s t)
     at false h k more = absurd (omega arith)
 
 module _ (ours claimed : List ℕ) {agreed : ℕ} (a : agreed ≡ length (agreedOf ours claimed)) where
-  unlike : (sameOf ours claimed ≡ true → ⊥) → {r : Checked} → r ≡ wrongAt claimed (length (pieces lineFeed (partOf claimed 0 agreed))) → r ≡ checkedOf ours claimed
+  unlike : (sameOf ours claimed ≡ true → ⊥) → {r : Checked} → r ≡ wrongBehind claimed agreed → r ≡ checkedOf ours claimed
   unfolding checkedOf
   unlike other {r} e = at (sameOf ours claimed) other
     where
@@ -82,10 +83,10 @@ module _ (ours claimed : List ℕ) {agreed : ℕ} (a : agreed ≡ length (agreed
       let w = a ∙ ap (λ (t : List ℕ). length (agreedOf ours t)) (sym e ∙ sym (append-nil ours)) ∙ ap length (agreed-longer ours []) in
       (w, w ∙ ap length e)
 
-  pub wrong-in-ours : {r : Checked} → agreed < length ours → r ≡ wrongAt claimed (length (pieces lineFeed (partOf claimed 0 agreed))) → r ≡ checkedOf ours claimed
+  pub wrong-in-ours : {r : Checked} → agreed < length ours → r ≡ wrongBehind claimed agreed → r ≡ checkedOf ours claimed
   wrong-in-ours h e = unlike (λ same. let w = all-of-ours same .0 in omega arith) e
 
-  pub wrong-in-claimed : {r : Checked} → agreed < length claimed → r ≡ wrongAt claimed (length (pieces lineFeed (partOf claimed 0 agreed))) → r ≡ checkedOf ours claimed
+  pub wrong-in-claimed : {r : Checked} → agreed < length claimed → r ≡ wrongBehind claimed agreed → r ≡ checkedOf ours claimed
   wrong-in-claimed h e = unlike (λ same. let w = all-of-ours same .1 in omega arith) e
 
   pub right-in-both : length ours ≤ agreed → length claimed ≤ agreed → Right ≡ checkedOf ours claimed

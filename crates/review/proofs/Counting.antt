@@ -1,4 +1,4 @@
--- The line feeds of a text, counted byte by byte: its lines are one more.
+-- The line feeds of a text, counted byte by byte: its pieces between them are one more.
 -- Assumes nothing.
 use Prim.Native.Nat.{ℕ, suc, _+_, _≤_, _<_}
 use mathlib.Core.Path.{_≡_}
@@ -12,7 +12,7 @@ use lib.Seq.{drop-cons}
 use Rattle.text.specs.Pieces.{lineFeed, joined, pieces}
 use Rattle.review.proofs.FullLines.{joined-pieces}
 
--- a byte more is a line more where it is a line feed, and else goes to the first line
+-- a byte more is a piece more where it is a line feed, and else goes to the first piece
 one-more : (x : ℕ) (s : List ℕ) → length (pieces lineFeed (x ∷ s)) ≡ cond (eqb x lineFeed) 1 0 + length (pieces lineFeed s)
 unfolding pieces
 one-more x s = at (eqb x lineFeed)

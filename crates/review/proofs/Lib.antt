@@ -1,6 +1,6 @@
 pub mod Counting
 pub mod Comparing
-pub mod Kept
+pub mod OurText
 pub mod Numbers
 pub mod FullLines
 pub mod Ends

@@ -17,6 +17,7 @@ use Rattle.text.proofs.Alike.{longer-differs}
 use Rattle.text.proofs.Front.{free, free-parts}
 use Rattle.review.specs.Checking.{wrongLine}
 use Rattle.review.specs.Lines.{fullLines, Ended}
+use Rattle.review.specs.Promises.{FirstWrongLine}
 use Rattle.review.proofs.FullLines.{joined-first, joined-later, joined-take, joined-pieces, pieces-some, ended-more}
 
 -- A text has itself in common with one that goes on behind it, and is not the same.
@@ -61,12 +62,6 @@ longer-other s x u = sym (longer-differs s (s ++ (x ∷ u)) (λ e. let l = lengt
 pub shorter-other : (s t : List ℕ) → length t < length s → sameOf s t ≡ false
 shorter-other s t l = sym (longer-differs s t (λ e. omega arith))
 
--- The k lines of the claimed text before line k + 1 are ended, and are the first k of ours; and it is not line k + 1 of ours.
-pub record Parted (ours claimed : List ℕ) (k : ℕ) : Type 0 where
-  pub ended : (i : ℕ) → i < k → Ended (getD (fullLines claimed) i [])
-  pub same : take k (fullLines claimed) ≡ take k (fullLines ours)
-  pub wrong : getD (fullLines claimed) k [] ≡ getD (fullLines ours) k [] → ⊥
-
 -- a text's first line has its first byte in front
 first-byte : (x : ℕ) (s : List ℕ) → getD (getD (fullLines (x ∷ s)) 0 []) 0 0 ≡ x
 unfolding fullLines
@@ -83,12 +78,12 @@ first-some x s e = ⊎-elim
     (passes-or-fails (eqb x lineFeed))
 
 -- they part in the first line
-parted-here : (s t : List ℕ) (k : ℕ) → 1 ≡ suc k → (getD (fullLines t) 0 [] ≡ getD (fullLines s) 0 [] → ⊥) → Parted s t k
+parted-here : (s t : List ℕ) (k : ℕ) → 1 ≡ suc k → (getD (fullLines t) 0 [] ≡ getD (fullLines s) 0 [] → ⊥) → FirstWrongLine s t k
 parted-here s t zero e ne = record { ended = λ i h. absurd (omega arith); same = refl; wrong = ne }
 parted-here s t (suc k) e ne = absurd (omega arith)
 
 -- one more line in common
-parted-line : (x : ℕ) (s t : List ℕ) (k : ℕ) → eqb x lineFeed ≡ true → Parted s t k → Parted (x ∷ s) (x ∷ t) (suc k)
+parted-line : (x : ℕ) (s t : List ℕ) (k : ℕ) → eqb x lineFeed ≡ true → FirstWrongLine s t k → FirstWrongLine (x ∷ s) (x ∷ t) (suc k)
 unfolding fullLines
 parted-line x s t k h p =
     record {
@@ -102,7 +97,7 @@ parted-line x s t k h p =
     ended (suc i) l = rw h (p .ended i (omega arith))
 
 -- one more byte in common
-parted-byte : (x : ℕ) (s t : List ℕ) (k : ℕ) → eqb x lineFeed ≡ false → Parted s t k → Parted (x ∷ s) (x ∷ t) k
+parted-byte : (x : ℕ) (s t : List ℕ) (k : ℕ) → eqb x lineFeed ≡ false → FirstWrongLine s t k → FirstWrongLine (x ∷ s) (x ∷ t) k
 unfolding fullLines
 parted-byte x s t k h p =
     record {
@@ -127,19 +122,19 @@ parted-byte x s t k h p =
     wrong (suc k) ne e = ne (rw (joined-later x (fullLines t) k, joined-later x (fullLines s) k) at e)
 
 -- one more byte in common, LF or not
-parted-more : (x : ℕ) (s t : List ℕ) (k : ℕ) → length (pieces lineFeed (x ∷ agreedOf s t)) ≡ suc k → ((j : ℕ) → wrongLine s t ≡ suc j → Parted s t j) → Parted (x ∷ s) (x ∷ t) k
+parted-more : (x : ℕ) (s t : List ℕ) (k : ℕ) → length (pieces lineFeed (x ∷ agreedOf s t)) ≡ suc k → ((j : ℕ) → wrongLine s t ≡ suc j → FirstWrongLine s t j) → FirstWrongLine (x ∷ s) (x ∷ t) k
 unfolding pieces
 parted-more x s t k e more = ⊎-elim
     (λ (h : eqb x lineFeed ≡ true). line k h (rw h at e))
     (λ (h : eqb x lineFeed ≡ false). parted-byte x s t k h (more k (rw (h, joined-pieces lineFeed x (agreedOf s t)) at e)))
     (passes-or-fails (eqb x lineFeed))
   where
-    line : (k : ℕ) → eqb x lineFeed ≡ true → suc (wrongLine s t) ≡ suc k → Parted (x ∷ s) (x ∷ t) k
+    line : (k : ℕ) → eqb x lineFeed ≡ true → suc (wrongLine s t) ≡ suc k → FirstWrongLine (x ∷ s) (x ∷ t) k
     line zero h e = let some = pieces-some lineFeed (agreedOf s t) in absurd (omega arith)
     line (suc k) h e = parted-line x s t k h (more k (omega arith))
 
 -- Two texts that are not the same part in the line of which what they have in common has so many pieces.
-pub parted : (s t : List ℕ) (k : ℕ) → sameOf s t ≡ false → wrongLine s t ≡ suc k → Parted s t k
+pub parted : (s t : List ℕ) (k : ℕ) → sameOf s t ≡ false → wrongLine s t ≡ suc k → FirstWrongLine s t k
 unfolding sameOf agreedOf pieces fullLines
 parted [] [] k d e = absurd (never-both refl d)
 parted [] (y ∷ t) k d e = parted-here [] (y ∷ t) k e (first-some y t)
@@ -158,7 +153,7 @@ parted (x ∷ s) (y ∷ t) k d e =
     (passes-or-fails (eqb x y))
 
 -- No two lines are the first that is wrong.
-pub parted-once : {s t : List ℕ} {j k : ℕ} → Parted s t j → Parted s t k → j < k → ⊥
+pub parted-once : {s t : List ℕ} {j k : ℕ} → FirstWrongLine s t j → FirstWrongLine s t k → j < k → ⊥
 parted-once {s} {t} {j} {k} p q l =
     p .wrong
     (sym (getD-take k (fullLines t) j [] l)

@@ -1,6 +1,6 @@
 -- The promises of a check, proved.
 -- Assumes nothing.
-use Prim.Native.Nat.{ℕ, suc, _-_, _≤_, _<_}
+use Prim.Native.Nat.{ℕ, suc, _+_, _-_, _≤_, _<_}
 use mathlib.Core.Path.{_≡_, refl, sym, _∙_, ap, subst}
 use mathlib.Core.Bool.{Bool, true, false, cond}
 use mathlib.Core.List.{List, [], _∷_, _++_, flatten, append-nil}
@@ -8,7 +8,7 @@ use mathlib.Core.Logic.{⊎-elim}
 use native.Mathlib.Omega.{arith}
 use lib.Dec.{eqb}
 use lib.ListN.{length, getD, take, drop, length-append}
-use lib.Seq.{take-length, take-all}
+use lib.Seq.{take-length, take-all, getD-append-add}
 use borrow.Author.Tests.{ne-eqb}
 use Rattle.laws.proofs.Order.{lt-or-le, passes-or-fails}
 use Rattle.refusal.specs.Refusal.{granted}
@@ -25,16 +25,12 @@ use Rattle.writing.proofs.Writing.{refused-answer, granted-answer, buffer-holds
 use Rattle.calculator.specs.Outcome.{byTables, outcomeOf}
 use Rattle.review.specs.declared.Checked.the-variants.{Right}
 use Rattle.review.specs.Checking.{wrongLine, checkedOf, answerFor, given}
-use Rattle.review.specs.Lines.{fullLines}
-use Rattle.review.specs.Promises.{YesExactly, FirstWrongLine, FirstWrong, StopsEarly, UnendedIsWrong, RightIsEnded, LastUnended, PastTheEnd, LinesOfTheRules, RefusedChecked, OurOwn, OneAnswer}
+use Rattle.review.specs.Lines.{fullLines, Ended}
+use Rattle.review.specs.Promises.{YesExactly, FirstWrongLine, LineLiesAt, FirstWrong, StopsEarly, UnendedIsWrong, RightIsEnded, LastUnended, PastTheEnd, LinesOfTheRules, RefusedChecked, OurOwn, OneAnswer}
 use Rattle.review.proofs.FullLines.{line-piece, lines-together, lines-parted, line-begins, pieces-some, taken-pieces, taken-shorter, ended-lines, ended-count, whole-pieces, free-behind}
 use Rattle.review.proofs.Ends.{end-onward, end-ends, end-free, end-only}
-use Rattle.review.proofs.Parting.{agreed-longer, agreed-shorter, agreed-behind, agreed-free, free-all, longer-other, shorter-other, Parted, parted, parted-once}
+use Rattle.review.proofs.Parting.{agreed-longer, agreed-shorter, agreed-behind, agreed-free, free-all, longer-other, shorter-other, parted, parted-once}
 use Rattle.review.proofs.AnswerLines.{whole-lines, granted-whole, refused-whole, answer-ended}
-
--- line k + 1 of a text, by its place
-abbrev lineAt : List ℕ → ℕ → Span
-lineAt t k = record { from = startOf lineFeed t k; to = endOf lineFeed t k }
 
 -- what is given back for any two texts
 module _ (ours claimed : List ℕ) where
@@ -42,8 +38,8 @@ module _ (ours claimed : List ℕ) where
   unfolding checkedOf
   given-right h = rw h
 
-  given-wrong : {k : ℕ} → sameOf ours claimed ≡ false → wrongLine ours claimed ≡ suc k → given claimed (checkedOf ours claimed) ≡ (suc k, lineAt claimed k)
-  unfolding checkedOf lineSpan
+  given-wrong : {k : ℕ} → sameOf ours claimed ≡ false → wrongLine ours claimed ≡ suc k → given claimed (checkedOf ours claimed) ≡ (suc k, lineSpan claimed (suc k))
+  unfolding checkedOf
   given-wrong h e = rw (h, e)
 
   -- a line has a number
@@ -65,62 +61,66 @@ module _ (ours claimed : List ℕ) where
   equal-right : claimed ≡ ours → checkedOf ours claimed ≡ Right
   equal-right e = given-right (rw e (same-itself ours))
 
+  -- no line is given with a yes
+  never-right : {k : ℕ} {place : Span} → given claimed (checkedOf ours claimed) ≡ (suc k, place) → checkedOf ours claimed ≡ Right → ⊥
+  never-right e r = let z = ap (λ (p : ℕ × Span). p .0) (sym e ∙ ap (given claimed) r) in omega arith
+
 pub yes-exactly : YesExactly
 yes-exactly job claimed =
     let ours = answerFor job in
     ((right-equal ours claimed, equal-right ours claimed), (zero-equal ours claimed, λ e. rw (equal-right ours claimed e) refl))
 
--- the line that two texts part in, with its place, is the first that is wrong
-first-line : (ours claimed : List ℕ) (k : ℕ) → sameOf ours claimed ≡ false → wrongLine ours claimed ≡ suc k → FirstWrongLine ours claimed k (lineAt claimed k)
-first-line ours claimed k h e =
-    let p = parted ours claimed k h e in
+-- a line lies at its place,
+line-lies : (text : List ℕ) (k : ℕ) → LineLiesAt text k (lineSpan text (suc k))
+unfolding lineSpan
+line-lies text k =
     record {
-      ended = p .ended;
-      same = p .same;
-      wrong = p .wrong;
-      begins = line-begins claimed k;
-      line = piece-bytes lineFeed claimed k ∙ line-piece claimed k;
-      onward = end-onward lineFeed claimed k;
-      ends = end-ends lineFeed claimed k;
-      free = end-free lineFeed claimed k;
+      begins = line-begins text k;
+      line = piece-bytes lineFeed text k ∙ line-piece text k;
+      onward = end-onward lineFeed text k;
+      ends = end-ends lineFeed text k;
+      free = end-free lineFeed text k;
     }
 
--- and the first wrong line has no other place
-only-place : {ours claimed : List ℕ} {k : ℕ} {place : Span} → FirstWrongLine ours claimed k place → lineAt claimed k ≡ place
-only-place {claimed = claimed} {k = k} {place = place} w =
-    let start = line-begins claimed k in
-    let begins = w .begins in
-    let onward = w .onward in
-    let from : startOf lineFeed claimed k ≡ place .from = omega arith in
-    let to : place .to ≡ endOf lineFeed claimed k = end-only lineFeed claimed k (place .to) (omega arith) (w .ends) (λ i l. w .free i (omega arith)) in
+-- and at no other
+only-place : {text : List ℕ} {k : ℕ} {place : Span} → LineLiesAt text k place → lineSpan text (suc k) ≡ place
+unfolding lineSpan
+only-place {text} {k} {place} l =
+    let start = line-begins text k in
+    let begins = l .begins in
+    let onward = l .onward in
+    let from : startOf lineFeed text k ≡ place .from = omega arith in
+    let to : place .to ≡ endOf lineFeed text k = end-only lineFeed text k (place .to) (omega arith) (l .ends) (λ i h. l .free i (omega arith)) in
     λ i. record { from = from i; to = sym to i }
+
+-- no two lines of one text are the first that is wrong
+only-line : {ours claimed : List ℕ} {j k : ℕ} → FirstWrongLine ours claimed j → FirstWrongLine ours claimed k → j ≡ k
+only-line {j = j} {k = k} p q = ⊎-elim
+    (λ (l : j < k). absurd (parted-once p q l))
+    (λ (l : k ≤ j). ⊎-elim (λ (m : k < j). absurd (parted-once q p m)) (λ (m : j ≤ k). omega arith) (lt-or-le k j))
+    (lt-or-le j k)
 
 pub first-wrong : FirstWrong
 first-wrong ours claimed k place = (forth, back)
   where
-    j : ℕ
-    j = wrongLine ours claimed - 1
-
-    forth : given claimed (checkedOf ours claimed) ≡ (suc k, place) → FirstWrongLine ours claimed k place
+    forth : given claimed (checkedOf ours claimed) ≡ (suc k, place) → FirstWrongLine ours claimed k × LineLiesAt claimed k place
     forth e = ⊎-elim
-        (λ (h : sameOf ours claimed ≡ true). let z = ap (λ (p : ℕ × Span). p .0) (sym e ∙ ap (given claimed) (given-right ours claimed h)) in absurd (omega arith))
+        (λ (h : sameOf ours claimed ≡ true). absurd (never-right ours claimed e (given-right ours claimed h)))
         (λ (h : sameOf ours claimed ≡ false).
         let number = line-number ours claimed in
         let same = ap (λ (p : ℕ × Span). p .0) (sym (given-wrong ours claimed h number) ∙ e) in
         let n : wrongLine ours claimed ≡ suc k = omega arith in
         let at = ap (λ (p : ℕ × Span). p .1) (sym (given-wrong ours claimed h n) ∙ e) in
-        subst (FirstWrongLine ours claimed k) at (first-line ours claimed k h n))
+        (parted ours claimed k h n, subst (LineLiesAt claimed k) at (line-lies claimed k)))
         (passes-or-fails (sameOf ours claimed))
 
-    back : FirstWrongLine ours claimed k place → given claimed (checkedOf ours claimed) ≡ (suc k, place)
-    back w = ⊎-elim
+    back : FirstWrongLine ours claimed k × LineLiesAt claimed k place → given claimed (checkedOf ours claimed) ≡ (suc k, place)
+    back (w, l) = ⊎-elim
         (λ (h : sameOf ours claimed ≡ true). absurd (w .wrong (ap (λ (t : List ℕ). getD (fullLines t) k []) (sym (same-so-equal ours claimed h)))))
         (λ (h : sameOf ours claimed ≡ false).
-        let p : Parted ours claimed k = record { ended = w .ended; same = w .same; wrong = w .wrong } in
-        let q = parted ours claimed j h (line-number ours claimed) in
         let number = line-number ours claimed in
-        let n : wrongLine ours claimed ≡ suc k = ⊎-elim (λ (l : k < j). absurd (parted-once p q l)) (λ (l : j ≤ k). ⊎-elim (λ (m : j < k). absurd (parted-once q p m)) (λ (m : k ≤ j). omega arith) (lt-or-le j k)) (lt-or-le k j) in
-        given-wrong ours claimed h n ∙ ap (λ (s : Span). (suc k, s)) (only-place w))
+        let same = only-line w (parted ours claimed (wrongLine ours claimed - 1) h number) in
+        given-wrong ours claimed h (omega arith) ∙ ap (λ (s : Span). (suc k, s)) (only-place l))
         (passes-or-fails (sameOf ours claimed))
 
 -- a text that is no longer than its front is its front
@@ -128,20 +128,32 @@ no-more : (front rest : List ℕ) {t : List ℕ} → t ≡ front ++ rest → len
 no-more front [] e n = e ∙ append-nil front
 no-more front (x ∷ rest) e n = let m = ap length e ∙ length-append front (x ∷ rest) in absurd (omega arith)
 
--- a text that stops before the end of ours, and is right so far: the part begins behind the k lines that are right, and runs to the end
+-- the line that two texts part in begins behind the lines of ours before it,
+begins-behind : (ours claimed : List ℕ) {k : ℕ} → sameOf ours claimed ≡ false → wrongLine ours claimed ≡ suc k → lineSpan claimed (suc k) .from ≡ length (flatten (take k (fullLines ours)))
+unfolding lineSpan
+begins-behind ours claimed {k} h m = line-begins claimed k ∙ ap (λ (ls : List (List ℕ)). length (flatten ls)) (parted ours claimed k h m .same)
+
+-- and where it is the last of theirs, it runs to the end
+runs-out : (ours claimed : List ℕ) {k : ℕ}
+    → sameOf ours claimed ≡ false
+    → wrongLine ours claimed ≡ suc k
+    → length (pieces lineFeed claimed) ≡ suc k
+    → given claimed (checkedOf ours claimed) ≡ (suc k, record { from = length (flatten (take k (fullLines ours))); to = length claimed })
+unfolding lineSpan
+runs-out ours claimed {k} h m n =
+    let from = begins-behind ours claimed h m in
+    let to = last-ends lineFeed claimed k (omega arith) in
+    given-wrong ours claimed h m ∙ (λ i. (suc k, record { from = from i; to = to i }))
+
+-- a text that stops before the end of ours, and is right so far
 stopped : (claimed rest : List ℕ) {ours : List ℕ} {k : ℕ}
     → ours ≡ claimed ++ rest
     → length claimed < length ours
     → length (pieces lineFeed claimed) ≡ suc k
     → given claimed (checkedOf ours claimed) ≡ (suc k, record { from = length (flatten (take k (fullLines ours))); to = length claimed })
-stopped claimed rest {ours} {k} e l n =
-    let h = shorter-other ours claimed l in
+stopped claimed rest {ours} e l n =
     let agreed : agreedOf ours claimed ≡ claimed = rw e (agreed-shorter claimed rest) in
-    let m : wrongLine ours claimed ≡ suc k = rw agreed n in
-    let p = parted ours claimed k h m in
-    let from = line-begins claimed k ∙ ap (λ (ls : List (List ℕ)). length (flatten ls)) (p .same) in
-    let to = last-ends lineFeed claimed k (omega arith) in
-    given-wrong ours claimed h m ∙ (λ i. (suc k, record { from = from i; to = to i }))
+    runs-out ours claimed (shorter-other ours claimed l) (rw agreed n) n
 
 pub stops-early : StopsEarly
 stops-early ours claimed k = (back, forth)
@@ -160,12 +172,23 @@ stops-early ours claimed k = (back, forth)
     back e =
         let w = first-wrong ours claimed k (atTheEnd claimed) .0 e in
         let front = flatten (take k (fullLines claimed)) in
-        let all : claimed ≡ front = no-more front (flatten (drop k (fullLines claimed))) (lines-parted claimed k) (w .begins) in
-        let ours-so : claimed ≡ flatten (take k lines) = all ∙ ap flatten (w .same) in
-        let fewer : length lines ≤ k → ⊥ = λ l. let z = ap (λ (p : ℕ × Span). p .0) (sym e ∙ ap (given claimed) (equal-right ours claimed (ours-so ∙ ap flatten (take-all k lines l) ∙ lines-together ours))) in omega arith in (
-          ⊎-elim (λ (l : k < length lines). l) (λ (l : length lines ≤ k). absurd (fewer l)) (lt-or-le k (length lines)),
+        let all : claimed ≡ front = no-more front (flatten (drop k (fullLines claimed))) (lines-parted claimed k) (w .1 .begins) in
+        let ours-so : claimed ≡ flatten (take k lines) = all ∙ ap flatten (w .0 .same) in
+        let yes : length lines ≤ k → checkedOf ours claimed ≡ Right = λ l. equal-right ours claimed (ours-so ∙ ap flatten (take-all k lines l) ∙ lines-together ours) in (
+          ⊎-elim (λ (l : k < length lines). l) (λ (l : length lines ≤ k). absurd (never-right ours claimed e (yes l))) (lt-or-le k (length lines)),
           ours-so,
         )
+
+-- a text that is ended is no text with an unended line at its end
+unended-other : (ours right rest : List ℕ) → Ended ours → ((i : ℕ) → i < length rest → getD rest i 0 ≡ lineFeed → ⊥) → 0 < length rest → sameOf ours (right ++ rest) ≡ false
+unended-other ours right rest ended ne some = ⊎-elim
+    (λ (h : sameOf ours (right ++ rest) ≡ true).
+    let e = same-so-equal ours (right ++ rest) h in
+    let n = length-append right rest in
+    let at : length (right ++ rest) - 1 ≡ length right + (length rest - 1) = omega arith in
+    absurd (ne (length rest - 1) (omega arith) (sym (getD-append-add right rest (length rest - 1) 0) ∙ ap (λ (i : ℕ). getD (right ++ rest) i 0) (sym at) ∙ subst Ended e ended)))
+    (λ (h : sameOf ours (right ++ rest) ≡ false). h)
+    (passes-or-fails (sameOf ours (right ++ rest)))
 
 pub unended-is-wrong : UnendedIsWrong
 unended-is-wrong job rest k l some ne =
@@ -176,22 +199,10 @@ unended-is-wrong job rest k l some ne =
     let f = free-all rest ne in
     let ended = answer-ended (outcomeOf byTables job) in
     let whole = whole-pieces ours k ended l in
-    let pieces-so : length (pieces lineFeed claimed) ≡ suc k = free-behind right rest f ∙ whole in
-    let longer = length-append right rest in
-    let other : sameOf ours claimed ≡ true → ⊥ = λ same. let e = same-so-equal ours claimed same in
-    let count = ap (λ (t : List ℕ). length (pieces lineFeed t)) e in
-    let all = ended-count ours ended in
-    let n : k ≡ length lines = omega arith in
-    let again : length right ≡ length ours = rw (n, take-length lines, lines-together ours) refl in
-    let m = ap length e in
-    omega arith in
-    let h : sameOf ours claimed ≡ false = ⊎-elim (λ (s : sameOf ours claimed ≡ true). absurd (other s)) (λ (s : sameOf ours claimed ≡ false). s) (passes-or-fails (sameOf ours claimed)) in
     let left = flatten (drop k lines) in
     let agreed : agreedOf ours claimed ≡ right ++ agreedOf left rest = ap (λ (t : List ℕ). agreedOf t claimed) (lines-parted ours k) ∙ agreed-behind right left rest in
     let m : wrongLine ours claimed ≡ suc k = rw agreed (free-behind right (agreedOf left rest) (agreed-free left rest f) ∙ whole) in
-    let from = line-begins claimed k ∙ ap (λ (ls : List (List ℕ)). length (flatten ls)) (parted ours claimed k h m .same) in
-    let to = last-ends lineFeed claimed k (omega arith) in
-    given-wrong ours claimed h m ∙ (λ i. (suc k, record { from = from i; to = to i }))
+    runs-out ours claimed (unended-other ours right rest ended ne some) m (free-behind right rest f ∙ whole)
 
 pub right-is-ended : RightIsEnded
 right-is-ended job claimed e = rw (right-equal (answerFor job) claimed e) (answer-ended (outcomeOf byTables job))
@@ -214,12 +225,11 @@ past-the-end job x more =
     let k = length (fullLines ours) in
     let h = longer-other ours x more in
     let m : wrongLine ours claimed ≡ suc k = rw (agreed-longer ours (x ∷ more)) (ended-count ours (answer-ended (outcomeOf byTables job))) in
-    let g = given-wrong ours claimed h m in
-    let p = parted ours claimed k h m in (
+    let g = given-wrong ours claimed h m in (
       ap (λ (p : ℕ × Span). p .0) g,
       ap (λ (p : ℕ × Span). p .1 .from) g
-          ∙ line-begins claimed k
-          ∙ ap (λ (ls : List (List ℕ)). length (flatten ls)) (p .same ∙ take-length (fullLines ours))
+          ∙ begins-behind ours claimed h m
+          ∙ ap (λ (ls : List (List ℕ)). length (flatten ls)) (take-length (fullLines ours))
           ∙ ap length (lines-together ours),
     )
 

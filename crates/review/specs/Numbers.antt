@@ -15,16 +15,16 @@ abbrev checks : List ℕ → List (List ℕ) → List (ℕ × ℕ × ℕ)
 checks job claims =
     map (λ (claimed : List ℕ). let g = given claimed (checkOf job claimed) in (g .0, g .1 .from, g .1 .to)) claims
 
--- The sample job, whose answer has 69 bytes in 7 lines, against that answer itself; against nothing, its first line, that line without
--- its LF, and all but its last LF;
+-- What is claimed for the sample job, whose answer has 69 bytes in 7 lines:
 abbrev pub sampleClaims : List (List ℕ)
 sampleClaims =
+    -- that answer itself, nothing, its first line, that line without its LF, and the answer but for its last LF;
     sampleText
     ∷ []
     ∷ bytes "answer=0\n"
     ∷ bytes "answer=0"
     ∷ bytes "answer=0\nload=1568350\ndepth=0\ncredit=0\nbasis=none\nvolume=0\nremoved=0"
-    -- with x behind it, with one LF behind it, and twice;
+    -- the answer with x behind it, with one LF behind it, and twice;
     ∷ (sampleText ++ bytes "x")
     ∷ (sampleText ++ bytes "\n")
     ∷ (sampleText ++ sampleText)
@@ -39,6 +39,7 @@ sampleClaims =
     ∷ bytes "answer=1\nline=0\n"
     ∷ []
 
+-- What is given back for each of these, in their order.
 abbrev pub SampleChecked : Type 0
 SampleChecked =
     checks sampleJob sampleClaims
@@ -59,12 +60,13 @@ SampleChecked =
     ∷ (1, 0, 8)
     ∷ []
 
--- jobs/refused-1.job, of which line 8 is malformed: against its two lines, another line, the first alone, and with a third behind them
+-- jobs/refused-1.job, of which line 8 is malformed
 abbrev pub refusedJob : List ℕ
 refusedJob =
     bytes
     "practice=trench\nnutrient=P\nmode=step\nrate=40\ntask=credit\namount=1500000000\narea=com,imp,-,400\narea=com,per,c,200\n"
 
+-- It is checked against its two lines, another second line, the first alone, and with a third behind them.
 abbrev pub RefusedJobChecked : Type 0
 RefusedJobChecked =
     checks refusedJob

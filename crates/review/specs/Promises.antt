@@ -32,26 +32,29 @@ YesExactly =
     → ((checkOf job claimed ≡ Right) ↔ (claimed ≡ answerFor job))
     × ((given claimed (checkOf job claimed) .0 ≡ 0) ↔ (claimed ≡ answerFor job))
 
--- Line k + 1 of the claimed text is its first wrong line, and lies at that place:
-pub record FirstWrongLine (ours claimed : List ℕ) (k : ℕ) (place : Span) : Type 0 where
+-- Line k + 1 of the claimed text is its first wrong line:
+pub record FirstWrongLine (ours claimed : List ℕ) (k : ℕ) : Type 0 where
   -- the k lines before it are ended, and are the first k of ours,
   pub ended : (i : ℕ) → i < k → Ended (getD (fullLines claimed) i [])
   pub same : take k (fullLines claimed) ≡ take k (fullLines ours)
   -- and it is not line k + 1 of ours, each with its LF if it has one, and empty where it is missing.
   pub wrong : getD (fullLines claimed) k [] ≡ getD (fullLines ours) k [] → ⊥
-  -- The part begins behind the k lines, and is the line without its LF:
-  pub begins : place .from ≡ length (flatten (take k (fullLines claimed)))
-  pub line : partOf claimed (place .from) (place .to) ≡ beforeOf lineFeed (getD (fullLines claimed) k [])
-  -- it runs on from there to its LF or to the end of the text, and holds no LF.
-  pub onward : place .from ≤ place .to
-  pub ends : ((place .to < length claimed) × (getD claimed (place .to) 0 ≡ lineFeed)) ⊎ (place .to ≡ length claimed)
-  pub free : (i : ℕ) → place .from ≤ i → i < place .to → getD claimed i 0 ≡ lineFeed → ⊥
 
--- Otherwise the first wrong line: what is given back is line k + 1 and a place exactly when they are those of the first wrong line.
+-- A place is that of line k + 1 of a text, without its LF:
+pub record LineLiesAt (text : List ℕ) (k : ℕ) (place : Span) : Type 0 where
+  -- it begins behind the k lines before it, and its bytes are those of the line before its LF;
+  pub begins : place .from ≡ length (flatten (take k (fullLines text)))
+  pub line : partOf text (place .from) (place .to) ≡ beforeOf lineFeed (getD (fullLines text) k [])
+  -- it runs on from there to that LF or to the end of the text, and holds no LF.
+  pub onward : place .from ≤ place .to
+  pub ends : ((place .to < length text) × (getD text (place .to) 0 ≡ lineFeed)) ⊎ (place .to ≡ length text)
+  pub free : (i : ℕ) → place .from ≤ i → i < place .to → getD text i 0 ≡ lineFeed → ⊥
+
+-- Otherwise the first wrong line: what is given back is line k + 1 and a place exactly when that is the first wrong line, and lies there.
 abbrev pub FirstWrong : Type 0
 FirstWrong =
     (ours claimed : List ℕ) (k : ℕ) (place : Span)
-    → (given claimed (checkedOf ours claimed) ≡ (suc k, place)) ↔ FirstWrongLine ours claimed k place
+    → (given claimed (checkedOf ours claimed) ≡ (suc k, place)) ↔ (FirstWrongLine ours claimed k × LineLiesAt claimed k place)
 
 -- An empty part at the end exactly where their text stops after whole right lines: k lines of ours, and not all.
 abbrev pub StopsEarly : Type 0

@@ -5,10 +5,11 @@ ghost use Prim.Native.Nat.{_+_, _≤_};
 ghost use mathlib.Core.Bool.{cond};
 ghost use lib.Dec.{eqb};
 ghost use lib.ListN.{length};
-ghost use Rattle.text.specs.Part.{Part, partOf};
+ghost use Rattle.text.specs.Part.{Part};
 ghost use Rattle.text.specs.Pieces.{lineFeed, pieces};
 ghost use Rattle.writing.specs.Writing.{writtenGiven};
-ghost use Rattle.review.specs.Checking.{wrongAt, checkedOf, checkOf, wrongSpan};
+ghost use Rattle.review.specs.Checking.{checkedOf, checkOf, wrongSpan};
+ghost use Rattle.review.specs.Inner.{wrongBehind};
 use writing::Written;
 
 pub enum Checked {
@@ -65,7 +66,7 @@ fn length_of(written: Written) -> usize
 
 // The line of the claimed text that is wrong, where so many of its bytes are right.
 fn wrong(claimed: &[u8], agreed: usize) -> Checked
-    ensures { λ r. ⌜ r ≡ wrongAt (now (claimed .entry)) (length (pieces lineFeed (partOf (now (claimed .entry)) 0 agreed))) ⌝ }
+    ensures { λ r. ⌜ r ≡ wrongBehind (now (claimed .entry)) agreed ⌝ }
 {
     let ended = feeds(text::part(claimed, 0, agreed));
     let from = text::start(claimed, b'\n', ended);

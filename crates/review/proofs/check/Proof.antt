@@ -6,7 +6,7 @@ use lib.Seq.{length-take-le}
 use borrow.Author.Needs.{needs}
 use Rattle.answer.specs.Lines.{answerText}
 use Rattle.review.proofs.Comparing.{checked-as}
-use Rattle.review.proofs.Kept.{kept-wide, ours-within, ours-taken}
+use Rattle.review.proofs.OurText.{kept-wide, ours-within, ours-taken}
 use Rattle.review.proofs.check.Statement.{statement}
 use Rattle.review.proofs.check.Tie as tie
 

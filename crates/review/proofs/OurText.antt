@@ -34,7 +34,7 @@ module _ (o : Outcome) (w : Wide o) (blank : List ℕ) (room : longest ≤ lengt
     holds : (take (length (answerText o)) (bufferOf blank (answerText o)) ≡ answerText o) × (length (bufferOf blank (answerText o)) ≡ length blank)
     holds = let h = granted-holds blank (answerText o) (le-trans (never-longer o w) room) in (h .0, h .2)
 
-    pub ours-length : n ≡ length (answerText o)
+    ours-length : n ≡ length (answerText o)
     ours-length = told ∙ ap (λ (x : Written). writtenGiven x .1) answered ∙ ap (λ (p : ℕ × ℕ). p .1) (longest-suffices o blank w room)
 
     pub ours-within : n ≤ length buf
