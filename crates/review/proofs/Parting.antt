@@ -1,6 +1,6 @@
 -- Where two texts part: what they have in common, and that the line they part in is the first of theirs that is wrong.
 -- Assumes nothing.
-use Prim.Native.Nat.{ℕ, zero, suc, _<_}
+use Prim.Native.Nat.{ℕ, zero, suc, _≤_, _<_}
 use mathlib.Core.Path.{_≡_, refl, sym, _∙_, ap}
 use mathlib.Core.Bool.{true, false, cond}
 use mathlib.Core.List.{List, [], _∷_, _++_}
@@ -10,7 +10,7 @@ use lib.Dec.{eqb}
 use lib.ListN.{length, getD, take, length-append}
 use lib.Seq.{getD-take}
 use borrow.Author.Tests.{eq-eqb, ne-eqb, eqb-true, eqb-false}
-use Rattle.laws.proofs.Order.{passes-or-fails, never-both}
+use Rattle.laws.proofs.Order.{lt-or-le, passes-or-fails, never-both}
 use Rattle.text.specs.Pieces.{lineFeed, joined, pieces}
 use Rattle.text.specs.Words.{sameOf, agreedOf}
 use Rattle.text.proofs.Alike.{longer-differs}
@@ -153,9 +153,15 @@ parted (x ∷ s) (y ∷ t) k d e =
     (passes-or-fails (eqb x y))
 
 -- No two lines are the first that is wrong.
-pub parted-once : {s t : List ℕ} {j k : ℕ} → FirstWrongLine s t j → FirstWrongLine s t k → j < k → ⊥
+parted-once : {s t : List ℕ} {j k : ℕ} → FirstWrongLine s t j → FirstWrongLine s t k → j < k → ⊥
 parted-once {s} {t} {j} {k} p q l =
     p .wrong
     (sym (getD-take k (fullLines t) j [] l)
     ∙ ap (λ (ls : List (List ℕ)). getD ls j []) (q .same)
     ∙ getD-take k (fullLines s) j [] l)
+
+pub only-line : {ours claimed : List ℕ} {j k : ℕ} → FirstWrongLine ours claimed j → FirstWrongLine ours claimed k → j ≡ k
+only-line {j = j} {k = k} p q = ⊎-elim
+    (λ (l : j < k). absurd (parted-once p q l))
+    (λ (l : k ≤ j). ⊎-elim (λ (m : k < j). absurd (parted-once q p m)) (λ (m : j ≤ k). omega arith) (lt-or-le k j))
+    (lt-or-le j k)

@@ -23,13 +23,14 @@ use Rattle.answer.specs.Lines.{grantedLines, refusedLines, answerText}
 use Rattle.writing.specs.Writing.{bufferOf, writtenGiven}
 use Rattle.writing.proofs.Writing.{refused-answer, granted-answer, buffer-holds}
 use Rattle.calculator.specs.Outcome.{byTables, outcomeOf}
+use Rattle.review.specs.declared.Checked.{Checked}
 use Rattle.review.specs.declared.Checked.the-variants.{Right}
 use Rattle.review.specs.Checking.{wrongLine, checkedOf, answerFor, given}
 use Rattle.review.specs.Lines.{fullLines, Ended}
 use Rattle.review.specs.Promises.{YesExactly, FirstWrongLine, LineLiesAt, FirstWrong, StopsEarly, UnendedIsWrong, RightIsEnded, LastUnended, PastTheEnd, LinesOfTheRules, RefusedChecked, OurOwn, OneAnswer}
 use Rattle.review.proofs.FullLines.{line-piece, lines-together, lines-parted, line-begins, pieces-some, taken-pieces, taken-shorter, ended-lines, ended-count, whole-pieces, free-behind}
 use Rattle.review.proofs.Ends.{end-onward, end-ends, end-free, end-only}
-use Rattle.review.proofs.Parting.{agreed-longer, agreed-shorter, agreed-behind, agreed-free, free-all, longer-other, shorter-other, parted, parted-once}
+use Rattle.review.proofs.Parting.{agreed-longer, agreed-shorter, agreed-behind, agreed-free, free-all, longer-other, shorter-other, parted, only-line}
 use Rattle.review.proofs.AnswerLines.{whole-lines, granted-whole, refused-whole, answer-ended}
 
 -- what is given back for any two texts
@@ -47,16 +48,13 @@ module _ (ours claimed : List ℕ) where
   line-number = let some = pieces-some lineFeed (agreedOf ours claimed) in omega arith
 
   -- a yes says that they are equal
-  right-equal : checkedOf ours claimed ≡ Right → claimed ≡ ours
-  unfolding checkedOf
-  right-equal e = ⊎-elim (λ (h : sameOf ours claimed ≡ true). sym (same-so-equal ours claimed h))
-      (λ (h : sameOf ours claimed ≡ false). let f = rw h at e in let z : _≡_ {A = ℕ} 0 1 = cc in absurd (omega arith))
-      (passes-or-fails (sameOf ours claimed))
-
   zero-equal : given claimed (checkedOf ours claimed) .0 ≡ 0 → claimed ≡ ours
   zero-equal e = ⊎-elim (λ (h : sameOf ours claimed ≡ true). sym (same-so-equal ours claimed h))
       (λ (h : sameOf ours claimed ≡ false). let f = ap (λ (p : ℕ × Span). p .0) (given-wrong h line-number) in absurd (omega arith))
       (passes-or-fails (sameOf ours claimed))
+
+  right-equal : checkedOf ours claimed ≡ Right → claimed ≡ ours
+  right-equal e = zero-equal (ap (λ (c : Checked). given claimed c .0) e)
 
   equal-right : claimed ≡ ours → checkedOf ours claimed ≡ Right
   equal-right e = given-right (rw e (same-itself ours))
@@ -92,13 +90,6 @@ only-place {text} {k} {place} l =
     let from : startOf lineFeed text k ≡ place .from = omega arith in
     let to : place .to ≡ endOf lineFeed text k = end-only lineFeed text k (place .to) (omega arith) (l .ends) (λ i h. l .free i (omega arith)) in
     λ i. record { from = from i; to = sym to i }
-
--- no two lines of one text are the first that is wrong
-only-line : {ours claimed : List ℕ} {j k : ℕ} → FirstWrongLine ours claimed j → FirstWrongLine ours claimed k → j ≡ k
-only-line {j = j} {k = k} p q = ⊎-elim
-    (λ (l : j < k). absurd (parted-once p q l))
-    (λ (l : k ≤ j). ⊎-elim (λ (m : k < j). absurd (parted-once q p m)) (λ (m : j ≤ k). omega arith) (lt-or-le k j))
-    (lt-or-le j k)
 
 pub first-wrong : FirstWrong
 first-wrong ours claimed k place = (forth, back)
@@ -156,20 +147,13 @@ stopped claimed rest {ours} e l n =
     runs-out ours claimed (shorter-other ours claimed l) (rw agreed n) n
 
 pub stops-early : StopsEarly
-stops-early ours claimed k = (back, forth)
+stops-early ours claimed k = (forth, back)
   where
     lines : List (List ℕ)
     lines = fullLines ours
 
-    forth : (k < length lines) × (claimed ≡ flatten (take k lines)) → given claimed (checkedOf ours claimed) ≡ (suc k, atTheEnd claimed)
-    forth (l, e) =
-        let shorter : length claimed < length ours = rw e (taken-shorter ours k l) in
-        let whole : ours ≡ claimed ++ flatten (drop k lines) = rw e (lines-parted ours k) in
-        let n : length (pieces lineFeed claimed) ≡ suc k = rw e (taken-pieces ours k l) in
-        stopped claimed (flatten (drop k lines)) whole shorter n ∙ (λ i. (suc k, record { from = length (sym e i); to = length claimed }))
-
-    back : given claimed (checkedOf ours claimed) ≡ (suc k, atTheEnd claimed) → (k < length lines) × (claimed ≡ flatten (take k lines))
-    back e =
+    forth : given claimed (checkedOf ours claimed) ≡ (suc k, atTheEnd claimed) → (k < length lines) × (claimed ≡ flatten (take k lines))
+    forth e =
         let w = first-wrong ours claimed k (atTheEnd claimed) .0 e in
         let front = flatten (take k (fullLines claimed)) in
         let all : claimed ≡ front = no-more front (flatten (drop k (fullLines claimed))) (lines-parted claimed k) (w .1 .begins) in
@@ -178,6 +162,13 @@ stops-early ours claimed k = (back, forth)
           ⊎-elim (λ (l : k < length lines). l) (λ (l : length lines ≤ k). absurd (never-right ours claimed e (yes l))) (lt-or-le k (length lines)),
           ours-so,
         )
+
+    back : (k < length lines) × (claimed ≡ flatten (take k lines)) → given claimed (checkedOf ours claimed) ≡ (suc k, atTheEnd claimed)
+    back (l, e) =
+        let shorter : length claimed < length ours = rw e (taken-shorter ours k l) in
+        let whole : ours ≡ claimed ++ flatten (drop k lines) = rw e (lines-parted ours k) in
+        let n : length (pieces lineFeed claimed) ≡ suc k = rw e (taken-pieces ours k l) in
+        stopped claimed (flatten (drop k lines)) whole shorter n ∙ (λ i. (suc k, record { from = length (sym e i); to = length claimed }))
 
 -- a text that is ended is no text with an unended line at its end
 unended-other : (ours right rest : List ℕ) → Ended ours → ((i : ℕ) → i < length rest → getD rest i 0 ≡ lineFeed → ⊥) → 0 < length rest → sameOf ours (right ++ rest) ≡ false
