@@ -476,7 +476,7 @@ _ANSWER = re.compile((r"answer=0\nload=\d+\ndepth=\d+\ncredit=\d+\nbasis=(?:" + 
 _WRITTEN = {0: re.compile(rb"practice=[a-z]+\n(?:[a-z]+=[\w,-]+\n){6,}"), 1: re.compile(rb"answer=(?:1|2|3|14)\n")}
 
 # What the program review prints: with status 0 that an answer is right, with status 1 its first wrong line, with its place.
-_CHECKED = {0: re.compile(rb"right\n"), 1: re.compile(rb"line (\d{1,20}) at byte (\d{1,20}) is (?:missing|wrong: ([^\n]*))\n")}
+_CHECKED = {0: re.compile(rb"right\n"), 1: re.compile(rb"line ([1-9]\d{0,19}) at byte (\d{1,20}) is (?:missing|wrong: ([^\n]*))\n")}
 
 
 def _by_program(command, job, what, fits):
@@ -614,7 +614,13 @@ def _by_review(command, job, answer):
     """What the program review says of two texts, which it is handed as files."""
     def fits(done):
         told = done.returncode in _CHECKED and _CHECKED[done.returncode].fullmatch(done.stdout)
-        return told and (done.returncode == 0 or answer.startswith(told[3] or b"", int(told[2])))
+        if not told or done.returncode == 0:
+            return told
+        start, line = int(told[2]), told[3]
+        if line is None:
+            return start == len(answer)
+        end = start + len(line)
+        return start < len(answer) and answer.startswith(line, start) and answer[end:end + 1] in (b"", b"\n")
 
     with tempfile.TemporaryDirectory() as folder:
         files = [Path(folder, "job"), Path(folder, "answer")]

@@ -58,6 +58,6 @@ int main(int argc, char **argv)
     free(job);
     free(claimed);
     if (fflush(stdout) != 0 || ferror(stdout))
-        return 2;
+        fail("standard output");
     return found.line == 0 ? 0 : 1;
 }

@@ -976,6 +976,10 @@ class WhatIsThere(unittest.TestCase):
             ("echo line 2 at byte 9 is wrong: load=45747; exit 1", "status 1"),
             ("echo line 2 at byte 8 is wrong: load=45746; exit 1", "status 1"),
             ("echo line 2 at byte 900 is missing; exit 1", "status 1"),
+            ("echo line 2 at byte 9 is missing; exit 1", "status 1"),
+            ("echo line 2 at byte 9 is wrong: load; exit 1", "status 1"),
+            ("echo line 0 at byte 9 is wrong: load=45746; exit 1", "status 1"),
+            (f"echo 'line 8 at byte {len(SIZED)} is wrong: '; exit 1", "status 1"),
             ("echo line 2 at byte 9 is wrong; exit 1", "status 1"),
             ("echo right; kill -9 $$", "status -9"),
         ):

@@ -15,7 +15,7 @@ use Rattle.review.specs.declared.Checked.{Checked}
 use Rattle.review.specs.declared.Checked.the-variants.{Right, Wrong}
 
 -- the number of the line in which two texts part, counted from 1: one more than the line feeds in what they have in common from their
--- start, and so as many as that has pieces between line feeds
+-- start, which is the number of its pieces between line feeds
 abbrev pub wrongLine : List ℕ → List ℕ → ℕ
 wrongLine ours claimed = length (pieces lineFeed (agreedOf ours claimed))
 
@@ -40,6 +40,6 @@ abbrev pub given : List ℕ → Checked → ℕ × Span
 given claimed Right = (0, atTheEnd claimed)
 given claimed (Wrong line from to) = (line, record { from = from; to = to })
 
--- the first wrong line of a claimed text for a job: an empty part at the end where it is right
+-- the place of the first wrong line of a claimed text for a job: an empty part at the end where the text is right
 abbrev pub wrongSpan : List ℕ → List ℕ → Span
 wrongSpan job claimed = given claimed (checkOf job claimed) .1

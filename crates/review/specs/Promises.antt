@@ -1,5 +1,6 @@
--- Rules, "Checking an answer": what is promised of a check, for every job text and every claimed text. Where a statement speaks of any
--- text `ours`, that of a check is the one that the rules give for its job. Proved in proofs/Promises.antt.
+-- Rules, "Checking an answer": what is promised of a check, for every job text and every claimed text. Where a statement is about any
+-- text `ours`, that is, for a check, the text that the rules give for its job. That the part which is handed back lies in their own text
+-- is the contract of `wrong_line`; that nothing is refused is the type `Checked`. Proved in proofs/Promises.antt.
 -- Assumes nothing.
 use Prim.Native.Nat.{ℕ, suc, _-_, _≤_, _<_}
 use mathlib.Core.List.{List, [], _∷_, _++_, flatten}
@@ -25,7 +26,7 @@ use Rattle.review.specs.declared.Checked.the-variants.{Right}
 use Rattle.review.specs.Checking.{checkedOf, answerFor, checkOf, given}
 use Rattle.review.specs.Lines.{fullLines, Ended}
 
--- A yes exactly when the answer text is what the rules give for the job: by its case, and by the number 0.
+-- A yes exactly when the answer text is what the rules give for the job: a yes by the case `Right`, and by the number 0.
 abbrev pub YesExactly : Type 0
 YesExactly =
     (job claimed : List ℕ)
@@ -56,14 +57,15 @@ FirstWrong =
     (ours claimed : List ℕ) (k : ℕ) (place : Span)
     → (given claimed (checkedOf ours claimed) ≡ (suc k, place)) ↔ (FirstWrongLine ours claimed k × LineLiesAt claimed k place)
 
--- An empty part at the end exactly where their text stops after whole right lines: k lines of ours, and not all.
+-- Line k + 1 with an empty part at the end exactly where their text stops after whole right lines: k lines of ours, and not all.
 abbrev pub StopsEarly : Type 0
 StopsEarly =
     (ours claimed : List ℕ) (k : ℕ)
     → (given claimed (checkedOf ours claimed) ≡ (suc k, atTheEnd claimed))
     ↔ ((k < length (fullLines ours)) × (claimed ≡ flatten (take k (fullLines ours))))
 
--- An unended line is wrong: where their text goes on behind k whole right lines with bytes of which none is LF, these are the part.
+-- An unended line is wrong: where their text goes on behind k whole right lines with one byte or more, of which none is LF, line k + 1
+-- is wrong, and these bytes are the part.
 abbrev pub UnendedIsWrong : Type 0
 UnendedIsWrong =
     (job rest : List ℕ) (k : ℕ)

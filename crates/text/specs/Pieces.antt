@@ -30,7 +30,7 @@ beforeOf b s = partOf s 0 (indexOf b s)
 abbrev pub afterOf : ℕ → List ℕ → List ℕ
 afterOf b s = partOf s (indexOf b s + 1) (length s)
 
--- a byte put in front of the first of some pieces
+-- a byte put in front of the first of some pieces, or by itself where there is none
 unfoldable pub joined : ℕ → List (List ℕ) → List (List ℕ)
 joined x [] = (x ∷ []) ∷ []
 joined x (p ∷ ps) = (x ∷ p) ∷ ps
