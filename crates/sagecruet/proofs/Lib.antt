@@ -1,4 +1,5 @@
 pub mod Words
 pub mod Reading
 pub mod Telling
+pub mod Checks
 pub mod Promises
