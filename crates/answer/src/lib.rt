@@ -1,4 +1,6 @@
 // Rules, "Job and answer text": a finished outcome, and its text written into a lent buffer.
+#![tactic(auto)]
+
 ghost use Rattle.std.specs.Prelude.{◌≡◌, ◌≤◌, ltb, length};
 ghost use Rattle.writing.specs.Writing.{written_of, put_length, buffer_of};
 ghost use Rattle.laws.specs.Text.{bytes};
@@ -11,7 +13,7 @@ use refusal::Refusal;
 use writing::Written;
 
 // How a job ended.
-#[derive(Drop)]
+#[derive(Clone, Copy)]
 pub enum Outcome {
     Granted(Figures),
     // The job's line in which the refusal arose, counted from 1, or 0.

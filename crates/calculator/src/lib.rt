@@ -1,5 +1,7 @@
 // Rules, "The three demands", the first: from a job text to its outcome, and to its answer text; on the published tables, or on a
 // lent sheet in their place.
+#![tactic(auto)]
+
 ghost use Rattle.std.specs.Prelude.{◌≡◌};
 ghost use Rattle.credit.specs.Answers.{Sheet, answer_of};
 ghost use Rattle.answer.specs.Lines.{answer_text};

@@ -1,4 +1,6 @@
 // Rules, "Curve sheets": crediting and sizing, on a lent sheet and on a published practice.
+#![tactic(auto)]
+
 ghost use Rattle.std.specs.Prelude.{◌≡◌, false, ◌≤◌};
 ghost use Rattle.units.specs.Limits.{largest, most_percent, highest_depth};
 ghost use Rattle.volume.specs.Areas.{area_at, volume_from};
@@ -18,7 +20,7 @@ use units::{Area, Depth, DepthAnswer, Load, Nutrient, Percent, Rate, Volume};
 use volume::{Areas, VolumeAnswer};
 
 // What is asked of a site: the credit of a volume, or the size of a target.
-#[derive(Drop)]
+#[derive(Clone, Copy)]
 pub enum Wanted {
     Credit(Volume),
     Size(Percent),
@@ -26,7 +28,7 @@ pub enum Wanted {
 
 // What a granted answer gives: the site's load, the grid depth, its percent and the basis of that, the volume and the removed
 // load.
-#[derive(Drop)]
+#[derive(Clone, Copy)]
 pub struct Figures {
     pub load: Load,
     pub depth: Depth,
@@ -36,7 +38,7 @@ pub struct Figures {
     pub removed: Load,
 }
 
-#[derive(Drop)]
+#[derive(Clone, Copy)]
 pub enum CreditAnswer {
     Granted(Figures),
     // 5, with the list and the place of the fault.
@@ -289,7 +291,7 @@ fn on_practice(
 
 // What a walk over a site finds: its total area or its record's refusal, its six areas and its load. A refused record
 // has no areas and no load.
-#[derive(Drop)]
+#[derive(Clone, Copy)]
 struct Survey {
     answer: AreaAnswer,
     areas: Areas,

@@ -1,4 +1,6 @@
 // Rules, "Job and answer text": the program reads a job from standard input and prints its answer.
+#![tactic(auto)]
+
 use libc::{STDIN_FILENO, STDOUT_FILENO};
 use writing::Written;
 

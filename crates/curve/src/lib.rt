@@ -1,4 +1,6 @@
 // Rules, "Curve sheets" and "How a percent was found": the percent of a sheet at a site rate and a depth, and its basis.
+#![tactic(auto)]
+
 ghost use Rattle.std.specs.Prelude.{◌≤◌, ◌<◌, ◌≡◌, length, get_or};
 ghost use Rattle.laws.specs.Line.{line};
 ghost use Rattle.sheet.specs.Sheet.{previous};
@@ -12,7 +14,7 @@ use sheet::Verdict;
 use units::{Depth, Percent, Rate};
 
 // How the site rate picks among the sheet's rates.
-#[derive(Drop)]
+#[derive(Clone, Copy)]
 pub enum Mode {
     // The curve of the fastest sheet rate not above the site rate.
     Step,
@@ -21,7 +23,7 @@ pub enum Mode {
 }
 
 // The curves that a site rate is credited by.
-#[derive(Drop)]
+#[derive(Clone, Copy)]
 pub enum Curves {
     // The curve of the rate at this place.
     One(usize),
@@ -35,7 +37,7 @@ pub enum Curves {
 }
 
 // How a percent was found.
-#[derive(Drop)]
+#[derive(Clone, Copy)]
 pub enum Basis {
     // No percent was asked for, or it was refused.
     None,
@@ -50,21 +52,21 @@ pub enum Basis {
 }
 
 // An exact percent: over / under thousandths.
-#[derive(Drop)]
+#[derive(Clone, Copy)]
 pub struct Fraction {
     pub over: u64,
     pub under: u64,
 }
 
 // What 5, 6 and 7 leave of a sheet and a rate, before a depth is known.
-#[derive(Drop)]
+#[derive(Clone, Copy)]
 pub enum Admission {
     Admitted(Curves),
     BadSheet { list: u64, place: usize },
     Refused(Refusal),
 }
 
-#[derive(Drop)]
+#[derive(Clone, Copy)]
 pub enum PercentAnswer {
     Granted(Percent, Basis),
     BadSheet { list: u64, place: usize },
@@ -72,7 +74,7 @@ pub enum PercentAnswer {
 }
 
 // What is found for a target: the least grid depth, its percent and the basis of that, or why there is none.
-#[derive(Drop)]
+#[derive(Clone, Copy)]
 pub enum Reached {
     Found(Depth, Percent, Basis),
     // 9: the target is above 100 percent.
@@ -296,7 +298,7 @@ pub fn basis_number(basis: Basis) -> u64
 }
 
 // A depth that was searched for, and its percent.
-#[derive(Drop)]
+#[derive(Clone, Copy)]
 struct Lowest {
     depth: Depth,
     percent: Percent,

@@ -1,4 +1,6 @@
 // Rules, "Job and answer text": the job text read, and the offending part of one that is refused 1.
+#![tactic(auto)]
+
 ghost use Rattle.std.specs.Prelude.{◌≡◌};
 ghost use Rattle.text.specs.Part.{Part};
 ghost use Rattle.job.specs.Areas.{refused_at};
@@ -16,7 +18,7 @@ mod head;
 mod numbers;
 pub mod words;
 
-#[derive(Drop)]
+#[derive(Clone, Copy)]
 pub enum Task {
     Load,
     Credit,
@@ -24,7 +26,7 @@ pub enum Task {
 }
 
 // What the first six lines of a job say.
-#[derive(Drop)]
+#[derive(Clone, Copy)]
 pub struct Job {
     pub practice: u64,
     pub nutrient: Nutrient,
@@ -36,56 +38,56 @@ pub struct Job {
 }
 
 // What reading the first six lines finds: the job, or the number of the first bad line.
-#[derive(Drop)]
+#[derive(Clone, Copy)]
 enum HeadRead {
     Fine(Job),
     Bad(usize),
 }
 
 // What reading an area line finds.
-#[derive(Drop)]
+#[derive(Clone, Copy)]
 enum AreaLine {
     Is(SubArea),
     Malformed,
 }
 
 // A number read where it stands.
-#[derive(Drop)]
+#[derive(Clone, Copy)]
 struct NumberStep {
     numeral: Numeral,
     next: usize,
 }
 
 // The head read, and the place behind it.
-#[derive(Drop)]
+#[derive(Clone, Copy)]
 struct HeadStep {
     read: HeadRead,
     next: usize,
 }
 
 // An area line read, and the place behind it.
-#[derive(Drop)]
+#[derive(Clone, Copy)]
 struct AreaStep {
     read: AreaLine,
     next: usize,
 }
 
 // The job, or the refusal with its line, counted from 1.
-#[derive(Drop)]
+#[derive(Clone, Copy)]
 pub enum JobAnswer {
     Granted(Job),
     Refused { why: Refusal, line: usize },
 }
 
 // The places of a text at which a part of it starts and stops.
-#[derive(Drop)]
+#[derive(Clone, Copy)]
 pub struct Span {
     pub from: usize,
     pub to: usize,
 }
 
 // A job text read: the site stands beside the answer, and is empty beside a refusal.
-#[derive(Drop)]
+#[derive(Clone, Copy)]
 pub struct Reading {
     pub answer: JobAnswer,
     pub site: Site,

@@ -1,4 +1,6 @@
 // Rules, "Job and answer text" and "Writing a job": a job and a site, written as a job text into a lent buffer.
+#![tactic(auto)]
+
 ghost use Rattle.std.specs.Prelude.{◌≡◌, ◌≤◌, ltb, length};
 ghost use Rattle.site.specs.Parts.{most_parts, parts_of};
 ghost use Rattle.writing.specs.Writing.{put_length, buffer_of};

@@ -1,4 +1,6 @@
 // Rules, "Site and load" and "Curve sheets": the export rates of Tables 3-1 and 3-2, the load of a site, and the removed load.
+#![tactic(auto)]
+
 ghost use Rattle.std.specs.Prelude.{◌≡◌, ◌*◌, ◌≤◌, get_or};
 ghost use Rattle.units.specs.Limits.{most_area};
 ghost use Rattle.site.specs.Parts.{parts_of, area_of};
@@ -11,7 +13,7 @@ use site::{AreaAnswer, Cover, LandUse, Site, Soil, SubArea};
 use units::{Load, Nutrient, Percent};
 
 // A load, or the refusal.
-#[derive(Drop)]
+#[derive(Clone, Copy)]
 pub enum LoadAnswer {
     Granted(Load),
     Refused(Refusal),

@@ -1,4 +1,6 @@
 // Rules, "Probe readings": the exact value of a probe's float becomes a rate, with whole numbers alone.
+#![tactic(auto)]
+
 ghost use Rattle.std.specs.Prelude.{◌≡◌, ◌<◌};
 ghost use Rattle.std.specs.Float.{binary32};
 ghost use Rattle.std.specs.Float.Ieee.{of_bits};
@@ -8,13 +10,13 @@ ghost use Rattle.probe.specs.Inner.{Scale, Parts, parts_answer};
 use refusal::Refusal;
 use units::{MOST_RATE, Rate};
 
-#[derive(Drop)]
+#[derive(Clone, Copy)]
 pub enum Reading {
     InchesPerHour(f32),
     MillimetresPerHour(f32),
 }
 
-#[derive(Drop)]
+#[derive(Clone, Copy)]
 pub enum RateAnswer {
     Granted(Rate),
     Refused(Refusal),

@@ -1,4 +1,6 @@
 // Rules, "Practices covered": the published sheets of the nine practices.
+#![tactic(auto)]
+
 mod tables;
 
 ghost use Rattle.std.specs.Prelude.{◌≤◌, ◌<◌, ◌≡◌, get_or};
@@ -17,7 +19,7 @@ pub const LAST_PRACTICE: u64 = 8;
 pub const DEPTHS: usize = 8;
 
 // Where a practice's sheet stands among all sheets: its rates from the first place to the second, its percents from there to the end.
-#[derive(Drop)]
+#[derive(Clone, Copy)]
 pub enum Place {
     At {
         rates: usize,

@@ -27,7 +27,6 @@ number_range refused.SiteFull = (lit< tt, lit< tt)
 number_range refused.PastLargest = (lit< tt, lit< tt)
 number_range refused.NumberNotHeld = (lit< tt, lit< tt)
 number_range refused.NumbersSpent = (lit< tt, lit< tt)
-number_range refused.UnfitChain = (lit< tt, lit< tt)
 
 pub refusal_not_granted : (why : Refusal) → number_of why ≡ granted → ⊥
 refusal_not_granted why e = let r = (number_range why).0 in omega arith

@@ -22,7 +22,6 @@ number_of refused.SiteFull = 14
 number_of refused.PastLargest = 15
 number_of refused.NumberNotHeld = 16
 number_of refused.NumbersSpent = 17
-number_of refused.UnfitChain = 19
 
 -- what a granted answer gives in the place of a number
 abbrev pub granted : ℕ

@@ -1,8 +1,10 @@
 // Rules, "The numbers given back": one case for each number, named for what it means.
+#![tactic(auto)]
+
 ghost use Rattle.std.specs.Prelude.{◌≡◌};
 ghost use Rattle.refusal.specs.Refusal.{number_of};
 
-#[derive(Drop)]
+#[derive(Clone, Copy)]
 pub enum Refusal {
     // 1: the job text is too long, or a line is missing, unended, out of order or malformed.
     MalformedText,
@@ -39,8 +41,6 @@ pub enum Refusal {
     NumberNotHeld,
     // 17: an add that finds the counter at 1,000,000 or more.
     NumbersSpent,
-    // 19: a chain of more than 16 practices, or one with a bad load, percent or link.
-    UnfitChain,
 }
 
 // The number that the rules give a refusal.
@@ -65,6 +65,5 @@ pub fn number(r: Refusal) -> u64
         Refusal::PastLargest => 15,
         Refusal::NumberNotHeld => 16,
         Refusal::NumbersSpent => 17,
-        Refusal::UnfitChain => 19,
     }
 }

@@ -1,5 +1,7 @@
 // Rules, "Checking an answer": whether an answer text that somebody else made is what the rules give for a job, or else its first
 // wrong line.
+#![tactic(auto)]
+
 ghost use Rattle.std.specs.Prelude.{◌≡◌, ◌+◌, ◌≤◌, cond, eqb, length};
 ghost use Rattle.text.specs.Part.{Part};
 ghost use Rattle.text.specs.Pieces.{line_feed, pieces};
@@ -9,7 +11,7 @@ ghost use Rattle.review.specs.Inner.{wrong_behind};
 
 use writing::Written;
 
-#[derive(Drop)]
+#[derive(Clone, Copy)]
 pub enum Checked {
     // The claimed text is ours, byte for byte.
     Right,

@@ -1,4 +1,6 @@
 // Rules, "A soil that is not known": a stored job text rewritten in the caller's own buffer, C for U where it reads.
+#![tactic(auto)]
+
 ghost use Rattle.std.specs.Prelude.{◌≡◌, map};
 ghost use Rattle.rewrite.specs.Rewriting.{c_for_u, rewritten_of};
 

@@ -1,4 +1,6 @@
 // Rules, "A soil that is not known": the program reads a stored job from standard input and prints its rewriting.
+#![tactic(auto)]
+
 use libc::{STDIN_FILENO, STDOUT_FILENO};
 
 fn main() {

@@ -1,4 +1,6 @@
 // Rules, "Pervious runoff": Table 3-4, and the sheet of its straight lines at every grid depth.
+#![tactic(auto)]
+
 mod entries;
 
 ghost use Rattle.std.specs.Prelude.{◌≡◌, ◌≤◌, ◌<◌};
@@ -34,10 +36,10 @@ pub fn printed_rows() -> [[u64; 6]; 10]
 const GRID: usize = 201;
 
 // Runoff: thirty-thousandths of an inch.
-#[derive(Drop)]
+#[derive(Clone, Copy)]
 pub struct RunoffDepth(pub u64);
 
-#[derive(Drop)]
+#[derive(Clone, Copy)]
 pub enum RunoffAnswer {
     Granted(RunoffDepth),
     Refused(Refusal),

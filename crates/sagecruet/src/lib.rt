@@ -1,4 +1,6 @@
 // The C interface: what the library answers, as numbers and texts. include/sagecruet.h says the same for C.
+#![tactic(auto)]
+
 ghost use Rattle.std.specs.Prelude.{◌≡◌};
 ghost use Rattle.sheet.specs.Sheet.{verdict_of};
 ghost use Rattle.curve.specs.Answers.{percent_answer};
@@ -23,7 +25,7 @@ mod codes;
 
 // A part of a job text: the place of its first byte, and its length.
 #[repr(C)]
-#[derive(Drop)]
+#[derive(Clone, Copy)]
 pub struct Part {
     pub from: usize,
     pub len: usize,
@@ -31,7 +33,7 @@ pub struct Part {
 
 // The number of the first wrong line of an answer text, 0 where it is right; the place of the line's first byte, and its length.
 #[repr(C)]
-#[derive(Drop)]
+#[derive(Clone, Copy)]
 pub struct Check {
     pub line: u64,
     pub from: usize,
@@ -40,7 +42,7 @@ pub struct Check {
 
 // A number given back, and the length of the job text that was written.
 #[repr(C)]
-#[derive(Drop)]
+#[derive(Clone, Copy)]
 pub struct JobWritten {
     pub answer: u64,
     pub len: usize,
@@ -48,7 +50,7 @@ pub struct JobWritten {
 
 // What the test of a sheet says: 0, or 5 with the list and the place.
 #[repr(C)]
-#[derive(Drop)]
+#[derive(Clone, Copy)]
 pub struct Verdict {
     pub answer: u64,
     pub list: u64,
@@ -57,7 +59,7 @@ pub struct Verdict {
 
 // A number given back, the percent and the number of its basis; beside 5 the list and the place.
 #[repr(C)]
-#[derive(Drop)]
+#[derive(Clone, Copy)]
 pub struct PercentAnswer {
     pub answer: u64,
     pub percent: u64,
@@ -68,7 +70,7 @@ pub struct PercentAnswer {
 
 // A number given back, and the rate that was asked for.
 #[repr(C)]
-#[derive(Drop)]
+#[derive(Clone, Copy)]
 pub struct Value {
     pub answer: u64,
     pub value: u64,

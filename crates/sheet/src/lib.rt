@@ -1,4 +1,6 @@
 // Rules, "Curve sheets": the test of a sheet, lent as its depths, its rates, and its percents rate by rate.
+#![tactic(auto)]
+
 ghost use Rattle.std.specs.Prelude.{◌*◌, ◌%◌, ◌≡◌, eqb, length};
 ghost use Rattle.sheet.specs.Sheet.{previous, in_step, offending, lengths_fit, offending_rate, offending_percent, without_rates, verdict_of};
 
@@ -8,7 +10,7 @@ pub const MOST_DEPTHS: usize = 16;
 
 pub const MOST_RATES: usize = 8;
 
-#[derive(Drop)]
+#[derive(Clone, Copy)]
 pub enum Verdict {
     Fine,
     // List 1 depths, 2 rates, 3 percents, and the first offending place; 0 and 0 for wrong lengths.

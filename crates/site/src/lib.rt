@@ -1,5 +1,7 @@
 // Rules, "Site and load" and "Numbers of sub-areas": sub-areas, the site record that holds them, the judging of a record, adding to it
 // and removing from it.
+#![tactic(auto)]
+
 ghost use Rattle.std.specs.Prelude.{ltb, ◌&&◌, [], ◌∷◌, ◌≡◌};
 ghost use Rattle.site.specs.Soils.{named, suits, column_of, load_column, runoff_column};
 ghost use Rattle.site.specs.Parts.{parts_of, impervious_of, impervious_area, empty_site};
@@ -11,7 +13,7 @@ ghost use Rattle.site.specs.Inner.{Fine, grown_by, Held, Told};
 use refusal::Refusal;
 use units::{Area, Column};
 
-#[derive(Drop)]
+#[derive(Clone, Copy)]
 pub enum LandUse {
     Com,
     Ind,
@@ -25,13 +27,13 @@ pub enum LandUse {
 }
 
 // Impervious or pervious.
-#[derive(Drop)]
+#[derive(Clone, Copy)]
 pub enum Cover {
     Imp,
     Per,
 }
 
-#[derive(Drop)]
+#[derive(Clone, Copy)]
 pub enum Soil {
     A,
     B,
@@ -44,7 +46,7 @@ pub enum Soil {
     NoSoil,
 }
 
-#[derive(Drop)]
+#[derive(Clone, Copy)]
 pub struct SubArea {
     pub land: LandUse,
     pub cover: Cover,
@@ -60,7 +62,7 @@ pub const SPENT_AT: u32 = 1_000_000;
 
 // The first `count` places hold the sub-areas and their numbers; no call reads past them. The counter is the number that the next
 // sub-area gets.
-#[derive(Drop)]
+#[derive(Clone, Copy)]
 pub struct Site {
     pub parts: [SubArea; MOST_PARTS],
     pub count: usize,
@@ -69,14 +71,14 @@ pub struct Site {
 }
 
 // An area of a site, or the refusal.
-#[derive(Drop)]
+#[derive(Clone, Copy)]
 pub enum AreaAnswer {
     Granted(Area),
     Refused(Refusal),
 }
 
 // The site that an add hands back, with its new total area or the refusal, and the number that the sub-area got: 0 beside a refusal.
-#[derive(Drop)]
+#[derive(Clone, Copy)]
 pub struct Added {
     pub answer: AreaAnswer,
     pub site: Site,
@@ -84,7 +86,7 @@ pub struct Added {
 }
 
 // The site that a removal hands back, with its new total area or the refusal.
-#[derive(Drop)]
+#[derive(Clone, Copy)]
 pub struct Removed {
     pub answer: AreaAnswer,
     pub site: Site,

@@ -17,6 +17,8 @@
 // with the refusal's number or 0, the number that a sub-area got or 0, the new total area or 0; then the record that was handed back,
 // whole, with its count, its counter and its 32 places, each by the five numbers that it has in the input; and its load of
 // phosphorus, or 0 where the record is refused.
+#![tactic(auto)]
+
 use libc::{STDIN_FILENO, STDOUT_FILENO};
 use loads::LoadAnswer;
 use site::{Added, AreaAnswer, Cover, LandUse, Site, Soil, SubArea};

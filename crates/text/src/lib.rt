@@ -1,4 +1,6 @@
 // Texts and nothing of jobs: parts of a text, the pieces between a byte, a key or a word of a list where it stands, a number's digits.
+#![tactic(auto)]
+
 ghost use Rattle.std.specs.Prelude.{◌≡◌, ◌+◌, ◌≤◌, min, max, [], ◌∷◌, ◌++◌, length, drop};
 ghost use Rattle.text.specs.Part.{Part};
 ghost use Rattle.text.specs.Pieces.{index_of, next_of, start_of};
@@ -6,21 +8,21 @@ ghost use Rattle.text.specs.Words.{same_of, agreed_of, opens_of, behind_of, unre
 ghost use Rattle.text.specs.Numbers.{most_digits, leading_zero, digits_from, numeral_of};
 
 // The place of a word in a list of words, counted from 0.
-#[derive(Drop)]
+#[derive(Clone, Copy)]
 pub enum Found {
     At(usize),
     Nothing,
 }
 
 // A word read where it stands: its place in its list, and the place behind it and the byte that ends it.
-#[derive(Drop)]
+#[derive(Clone, Copy)]
 pub struct WordStep {
     pub place: Found,
     pub next: usize,
 }
 
 // The number that a text says.
-#[derive(Drop)]
+#[derive(Clone, Copy)]
 pub enum Numeral {
     Is(u64),
     Malformed,

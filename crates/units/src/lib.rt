@@ -1,4 +1,6 @@
 // Rules, "Units, all whole numbers": acres, inches, cubic feet and pounds each keep their own kind.
+#![tactic(auto)]
+
 ghost use Rattle.std.specs.Prelude.{◌≡◌};
 ghost use Rattle.units.specs.Depths.{on_grid};
 ghost use Rattle.units.specs.Columns.{column_place};
@@ -6,27 +8,27 @@ ghost use Rattle.units.specs.Columns.{column_place};
 use refusal::Refusal;
 
 // Hundredths of an acre.
-#[derive(Drop)]
+#[derive(Clone, Copy)]
 pub struct Area(pub u64);
 
 // Hundredths of an inch.
-#[derive(Drop)]
+#[derive(Clone, Copy)]
 pub struct Depth(pub u64);
 
 // Hundred-thousandths of a cubic foot.
-#[derive(Drop)]
+#[derive(Clone, Copy)]
 pub struct Volume(pub u64);
 
 // Ten-thousandths of a pound per year.
-#[derive(Drop)]
+#[derive(Clone, Copy)]
 pub struct Load(pub u64);
 
 // Thousandths of a percent.
-#[derive(Drop)]
+#[derive(Clone, Copy)]
 pub struct Percent(pub u64);
 
 // Hundredths of an inch per hour.
-#[derive(Drop)]
+#[derive(Clone, Copy)]
 pub struct Rate(pub u64);
 
 // The largest volume, and the largest load: 10^13.
@@ -40,7 +42,7 @@ pub const MOST_RATE: u64 = 10_000;
 pub const MOST_PERCENT: u64 = 100_000;
 
 // A depth of the grid, or the refusal.
-#[derive(Drop)]
+#[derive(Clone, Copy)]
 pub enum DepthAnswer {
     Granted(Depth),
     Refused(Refusal),
@@ -63,14 +65,14 @@ impl Depth {
 }
 
 // Phosphorus or nitrogen.
-#[derive(Drop)]
+#[derive(Clone, Copy)]
 pub enum Nutrient {
     P,
     N,
 }
 
 // The soil columns that Tables 3-1, 3-2 and 3-4 share.
-#[derive(Drop)]
+#[derive(Clone, Copy)]
 pub enum Column {
     A,
     B,

@@ -2,6 +2,8 @@
 // there, volumes on a soil that is not known, a run of adds and removals, every entry of the published tables, checks of claimed
 // answers and the writing of jobs through the library, and prints what each gives. The stored output was made from document 001 and
 // the rules without the library, and tools/expected.py says what each line holds.
+#![tactic(auto)]
+
 ghost use Rattle.published.specs.Inner.{Standing};
 
 use credit::{CreditAnswer, Wanted};
@@ -21,7 +23,7 @@ use volume::VolumeAnswer;
 use writing::Written;
 
 // A step of the run: an area is added, a number is removed, or another count or counter is put into the record.
-#[derive(Drop)]
+#[derive(Clone, Copy)]
 enum Step {
     Add(u64),
     Remove(u32),

@@ -1,4 +1,6 @@
 // Rules, "Volume of a depth": V at a depth, and the depth of a volume.
+#![tactic(auto)]
+
 ghost use Rattle.std.specs.Prelude.{◌≡◌, length, ◌+◌, ◌*◌, ◌≤◌};
 ghost use Rattle.units.specs.Limits.{most_area, highest_depth};
 ghost use Rattle.runoff.specs.Runoff.{runoff_of, runoff_sheet};
@@ -14,14 +16,14 @@ use runoff::RunoffAnswer;
 use site::{AreaAnswer, Cover, Site, SubArea};
 use units::{Area, Column, Depth, DepthAnswer, Volume};
 
-#[derive(Drop)]
+#[derive(Clone, Copy)]
 pub enum VolumeAnswer {
     Granted(Volume),
     Refused(Refusal),
 }
 
 // The impervious area, then the pervious area of each soil column.
-#[derive(Drop)]
+#[derive(Clone, Copy)]
 pub struct Areas {
     pub of: [Area; 6],
 }
@@ -196,7 +198,7 @@ pub fn depth_of(areas: Areas, volume: Volume) -> DepthAnswer
 }
 
 // The six areas of a site beside its total area, or beside the refusal of its record; then they are zero.
-#[derive(Drop)]
+#[derive(Clone, Copy)]
 pub struct Gathered {
     pub answer: AreaAnswer,
     pub areas: Areas,

@@ -1,5 +1,7 @@
 // Rules, "Job and answer text" and "The numbers given back": a text, a word of a list and a number's digits, put at the start of a
 // lent buffer.
+#![tactic(auto)]
+
 ghost use Rattle.std.specs.Prelude.{◌≡◌, ◌+◌, ◌≤◌, ◌<◌, length};
 ghost use Rattle.text.specs.Pieces.{space, before_of};
 ghost use Rattle.text.specs.Numbers.{digit_zero, decimal_of};
@@ -9,7 +11,7 @@ ghost use Rattle.writing.specs.Lines.{word_at};
 use refusal::Refusal;
 
 // The length of the text that was written, or the refusal.
-#[derive(Drop)]
+#[derive(Clone, Copy)]
 pub enum Written {
     Granted(usize),
     Refused(Refusal),
