@@ -58,7 +58,7 @@ accepted sheet wanted n s mode r granting = told (judged s) refl granting
           numbers = f.4;
           there = sheet_there sheet wanted n (parts_of s) mode r g;
           usable = o.accepted;
-          impervious = o.within.some-impervious;
+          impervious = o.within.some_impervious;
         }
     told (area.Refused why) j g = absurd (refusal_not_granted why g)
 

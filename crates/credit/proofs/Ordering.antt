@@ -119,9 +119,9 @@ refused_in_order sheet n s mode r =
           ∙ worked_bare _ (impervious_area (parts_of s)) _ (percent_on sheet n mode r) (basis_on sheet n mode r) wanted e);
       volume_past = λ a v h.
           let o = opened sheet n s mode r a in
-          ap given (o.works (credit v) ∙ credit_past _ _ _ (percent_on sheet n mode r) (basis_on sheet n mode r) o.within.some-impervious v h);
+          ap given (o.works (credit v) ∙ credit_past _ _ _ (percent_on sheet n mode r) (basis_on sheet n mode r) o.within.some_impervious v h);
       target_past = λ a target h.
           let o = opened sheet n s mode r a in
-          ap given (o.works (size target) ∙ size_past _ _ _ (percent_on sheet n mode r) (basis_on sheet n mode r) o.within.some-impervious target h);
+          ap given (o.works (size target) ∙ size_past _ _ _ (percent_on sheet n mode r) (basis_on sheet n mode r) o.within.some_impervious target h);
       unreachable = λ a target h l. ap given (size_unreachable (opened sheet n s mode r a) target h l);
     }

@@ -57,10 +57,10 @@ module _ (load impervious : ℕ) (volume_at percent_at : ℕ → ℕ) (basis_at 
     rest_decides : Within load impervious volume_at → amount ≡ true → in_turn Refused a (tried load impervious volume_at amount rest) ≡ in_turn Refused a rest
     rest_decides w e =
         simp (
-          lt-ltb 0 impervious w.some-impervious,
+          lt-ltb 0 impervious w.some_impervious,
           e,
-          le-leb load largest w.load-within,
-          le-leb (volume_at highest_depth) largest w.volumes-within,
+          le-leb load largest w.load_within,
+          le-leb (volume_at highest_depth) largest w.volumes_within,
         )
 
   -- Crediting is granted where 8, 9 and 15 pass, and nowhere else.

@@ -69,14 +69,14 @@ faster_soil_never_less sheet n s mode r q v faster h g k =
 module _ {sheet : Sheet} {n : Nutrient} {s : Site} {mode : Mode} {r : ℕ} (o : Open sheet n s mode r) where
   -- V at a depth of the grid is a volume that is credited,
   volume_within : (d : ℕ) → d ≤ highest_depth → volume_of (parts_of s) d ≤ largest
-  volume_within d h = le_trans (volume_rises (parts_of s) d highest_depth h (le_refl highest_depth)) o.within.volumes-within
+  volume_within d h = le_trans (volume_rises (parts_of s) d highest_depth h (le_refl highest_depth)) o.within.volumes_within
 
   -- with the percent of that depth.
   volume_is : (d : ℕ) → d ≤ highest_depth
       → answer_of sheet (credit (volume_of (parts_of s) d)) n s mode r
       ≡ Granted (figures_of (load_of (rates.export_rates n) (parts_of s)) d (percent_on sheet n mode r d) (basis_on sheet n mode r d) (volume_of (parts_of s) d))
   volume_is d h =
-      credit_is o (volume_of (parts_of s) d) (volume_within d h) ∙ rw (depth_back (parts_of s) d o.within.some-impervious h)
+      credit_is o (volume_of (parts_of s) d) (volume_within d h) ∙ rw (depth_back (parts_of s) d o.within.some_impervious h)
 
 pub sizing_agrees : SizingAgrees
 sizing_agrees sheet n s mode r target g =
@@ -132,4 +132,4 @@ past_count_unread sheet wanted n s t mode r a = rw ((record-past-count s t a).0,
 
 pub by_sub_areas_alone : BySubAreasAlone
 unfolding answer_of
-by_sub_areas_alone sheet wanted n s t mode r a = rw ((site.by-sub-areas-alone s t a).0, a.parts)
+by_sub_areas_alone sheet wanted n s t mode r a = rw ((site.by_sub_areas_alone s t a).0, a.parts)

@@ -83,7 +83,7 @@ rated_ready : {ds rs ps : List ℕ} (mode : Mode) (r : ℕ) {c : Curves} → Rul
 unfolding rated
 rated_ready {ds} {rs} {ps} mode r {c} s e =
     let t = chosen (leb r (fastest_taken rs)) (leb (get_or rs 0 0) r) (curves_of rs mode r) c RateBelowSheet RateOutOfRange e in
-    let p = rate_rated rs refl s.some-rates (leb-true r (fastest_taken rs) t.0) (leb-true (get_or rs 0 0) r t.1) in
+    let p = rate_rated rs refl s.some_rates (leb-true r (fastest_taken rs) t.0) (leb-true (get_or rs 0 0) r t.1) in
     rw (sym t.2) (record { rules = s; curves = neighbours mode s p })
 
 judged_ready : (v : Verdict) {ds rs ps : List ℕ} (mode : Mode) (r : ℕ) {c : Curves} → verdict_of ds rs ps ≡ v
@@ -96,7 +96,7 @@ judged_ready (Unfit list place) mode r f e =
 -- 5 first.
 module _ (ds rs ps : List ℕ) {v : Verdict} (told : v ≡ verdict_of ds rs ps) where
   pub fine_some : v ≡ Fine → 1 ≤ length rs
-  fine_some e = (fine_rules ds rs ps (sym told ∙ e)).some-rates
+  fine_some e = (fine_rules ds rs ps (sym told ∙ e)).some_rates
 
   pub fine_rated : (mode : Mode) (r : ℕ) {a : Admission} → v ≡ Fine → a ≡ rated rs mode r → a ≡ admission_of ds rs ps mode r
   unfolding admission_of
@@ -119,7 +119,7 @@ module _ (ds rs ps : List ℕ) (mode : Mode) (r : ℕ) {a : Admission} (told : a
 
   -- An admitted sheet has a depth.
   pub admitted_depths : {c : Curves} → a ≡ admission.Admitted c → 1 ≤ length ds
-  admitted_depths e = (admitted_ready e).rules.some-depths
+  admitted_depths e = (admitted_ready e).rules.some_depths
 
   pub percent_deep : (d : ℕ) {c : Curves} → a ≡ admission.Admitted c → highest_depth < d → percent.Refused AmountOutOfRange ≡ percent_answer ds rs ps mode r d
   unfolding percent_answer

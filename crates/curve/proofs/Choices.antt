@@ -47,7 +47,7 @@ module _ {rs : List ℕ} {r : ℕ} (p : Rated rs r) where
   reached_some =
       ⊎_elim
       (λ (h : reached rs r < 1).
-      let n = p.some-rates in
+      let n = p.some_rates in
       let e = leb-false (get_or rs (reached rs r) 0) r (first_fails (λ k. leb (get_or rs k 0) r) (length rs) (omega arith)) in
       let z : reached rs r ≡ 0 = omega arith in
       let s = p.slowest in

@@ -89,7 +89,7 @@ start_exactly ds rs ps mode r d g = (λ e. told_start ds (curves_of rs mode r) d
 pub held_exactly : HeldExactly
 held_exactly ds rs ps mode r d g = (
   λ e. told_held ds (curves_of rs mode r) d e,
-  λ h. sym (basis_held ds (curves_of rs mode r) d (let n = g.rules.some-depths in let l = up_to_last g.rules 0 (omega arith) in omega arith) h),
+  λ h. sym (basis_held ds (curves_of rs mode r) d (let n = g.rules.some_depths in let l = up_to_last g.rules 0 (omega arith) in omega arith) h),
 )
 
 -- The curves of a site rate are mixed exactly where it lies strictly between two neighbouring rates in mode mix.
@@ -155,7 +155,7 @@ module _ {ds rs ps : List ℕ} {r : ℕ} (g : Usable ds rs ps r) where
 of_sheet : {ds rs ps : List ℕ} → Rules ds rs ps → (c : Curves) (d : ℕ) → basis_at ds c d ≡ Printed → OfSheet ds d
 of_sheet {ds} s c d e =
     let t = told_printed ds c d e in
-    record { place = segment ds d; within = basis_place ds d s.some-depths t.0 refl; there = sym t.1 }
+    record { place = segment ds d; within = basis_place ds d s.some_depths t.0 refl; there = sym t.1 }
 
 pub printed_exactly : PrintedExactly
 printed_exactly ds rs ps mode r d g = (
@@ -216,7 +216,7 @@ never_none ds rs ps mode r =
       any = λ d e. tells ds (curves_of rs mode r) d None e;
       percent = λ d e z.
           let u = (percent_granted_exactly ds rs ps mode r d).0 e in
-          let f = ap (λ (t : ℕ × ℕ × ℕ × ℕ × ℕ). t.2) ((percents_given ds rs ps mode r d u.0).on-grid u.1) in
+          let f = ap (λ (t : ℕ × ℕ × ℕ × ℕ × ℕ). t.2) ((percents_given ds rs ps mode r d u.0).on_grid u.1) in
           numbered (basis_of ds rs mode r d) (tells ds (curves_of rs mode r) d None) (sym f ∙ z);
       reach = λ target e z.
           let u = (reach_granted_exactly ds rs ps mode r target).0 e in

@@ -83,7 +83,7 @@ pub percent_granted_exactly : PercentGrantedExactly
 unfolding percent_answer
 percent_granted_exactly ds rs ps mode r d = (
   λ e. granted_usable (admission_of ds rs ps mode r) ds rs ps mode r d refl e,
-  λ u. ap (λ (t : ℕ × ℕ × ℕ × ℕ × ℕ). t.0) ((percents_given ds rs ps mode r d u.0).on-grid u.1),
+  λ u. ap (λ (t : ℕ × ℕ × ℕ × ℕ × ℕ). t.0) ((percents_given ds rs ps mode r d u.0).on_grid u.1),
 )
 
 -- For a target the least depth that reaches it is, with its percent, or why there is none.

@@ -26,9 +26,9 @@ in_segment {ds} {rs} {ps} d {x} s e f =
     rw f
     (record {
       rules = s;
-      within = segment_in ds s.some-depths x h;
-      from = segment_from ds s.some-depths x h;
-      to = segment_to ds s.some-depths x h;
+      within = segment_in ds s.some_depths x h;
+      from = segment_from ds s.some_depths x h;
+      to = segment_to ds s.some_depths x h;
     })
 
 pub line_fits : {ds rs ps : List ℕ} (j : ℕ) {k x x₀ y₀ : ℕ} → InSegment ds rs ps k x → j < length rs → x₀ ≡ previous ds (length ds) k

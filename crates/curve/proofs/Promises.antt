@@ -23,7 +23,7 @@ use Rattle.curve.proofs.Rising.{under_some, percent_rises, percent_most}
 module _ {ds rs ps : List ℕ} {r : ℕ} (g : Usable ds rs ps r) where
   -- A granted rate is reached by its sheet.
   pub granted_rated : Rated rs r
-  granted_rated = rate_rated rs refl g.rules.some-rates g.taken g.slowest
+  granted_rated = rate_rated rs refl g.rules.some_rates g.taken g.slowest
 
   pub granted_ready : (mode : Mode) → Ready ds rs ps (curves_of rs mode r)
   granted_ready mode = record { rules = g.rules; curves = neighbours mode g.rules granted_rated }

@@ -70,7 +70,7 @@ module _ {ds rs ps : List ℕ} (s : Rules ds rs ps) where
     -- Its segment is this one, or the one before where it lies on the border.
     on_border : segment ds d < m → (m ≡ suc (segment ds d)) × (d ≡ get_or ds (segment ds d) 0)
     on_border l =
-        let a = segment_to ds s.some-depths d not_deep in
+        let a = segment_to ds s.some_depths d not_deep in
         let b = one_rises ds (length ds) s.depths (segment ds d) m l h (le_refl _) in
         (next a, omega arith)
       where
@@ -173,7 +173,7 @@ module _ {ds rs ps : List ℕ} (s : Rules ds rs ps) where
       (λ (l : j + 1 < length rs).
       simp (lt-ltb (j + 1) (length rs) l)
       (rw (line_start (get_or rs j 0) (height ds ps j (segment ds (held ds d)) (held ds d)) (get_or rs (j + 1) 0) (height ds ps (j + 1) (segment ds (held ds d)) (held ds d)))
-      (let w = width_some s (segment_in ds s.some-depths (held ds d) (held_last ds d)) in
+      (let w = width_some s (segment_in ds s.some_depths (held ds d) (held_last ds d)) in
       let a = rates_apart s j l in
       floor_same
       ((get_or rs (j + 1) 0 - get_or rs j 0) * height ds ps j (segment ds (held ds d)) (held ds d)) (width ds (segment ds (held ds d)) * (get_or rs (j + 1) 0 - get_or rs j 0))
@@ -247,12 +247,12 @@ pub stays_at_last : StaysAtLast
 stays_at_last ds rs ps r d g h =
     stepped g d (printed_at ds rs ps r (length ds - 1)) 1 (omega arith)
     (rw (exact_beyond ds ps (One (fastest rs r)) d h)
-    (printed_exact g.rules (fastest rs r) (length ds - 1) (let n = g.rules.some-depths in omega arith)))
+    (printed_exact g.rules (fastest rs r) (length ds - 1) (let n = g.rules.some_depths in omega arith)))
 
 pub through_origin : ThroughOrigin
 unfolding height
 through_origin ds rs ps r d g h =
-    let n = g.rules.some-depths in
+    let n = g.rules.some_depths in
     let w : 0 < get_or ds 0 0 = simp (one_start ds (length ds), sub-zero) at (width_some g.rules n) in
     stepped g d (line 0 0 (get_or ds 0 0) (printed_at ds rs ps r 0) d) (get_or ds 0 0) w
     (simp sub-zero
@@ -297,7 +297,7 @@ pub last_curve_alone : LastCurveAlone
 unfolding curves_of
 last_curve_alone ds rs ps r d g h =
     let e = last_fastest g.rules (granted_rated g) h in
-    let n = g.rules.some-rates in
+    let n = g.rules.some_rates in
     rw (step_printed g.rules (length rs - 1) d (omega arith), e)
     (simp (le-ltb (length rs - 1 + 1) (length rs) (omega arith)))
 

@@ -115,7 +115,7 @@ module _ (job : Job) (s : List ℕ) (from : ℕ) where
             record {
               within = omega (arith, w.within);
               memory = memory_stored site p w.memory;
-              fine = stored_fine site p total w.memory w.fine g.fit g.place g.within ∙ ap Granted g.new-total;
+              fine = stored_fine site p total w.memory w.fine g.fit g.place g.within ∙ ap Granted g.new_total;
               decides =
                   rw (l.behind p e)
                   (sym (rw (← put ∙ add_agrees site p total w.fine, f) at (areas_good job (drop at s) line site (sym l.read ∙ e))) ∙ w.decides);

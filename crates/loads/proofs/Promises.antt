@@ -23,7 +23,7 @@ past_count_unread rates s t r = simp ((record-past-count s t r).0, r.parts)
 
 pub by_sub_areas_alone : BySubAreasAlone
 unfolding load_under
-by_sub_areas_alone rates s t r = simp ((site.by-sub-areas-alone s t r).0, r.parts)
+by_sub_areas_alone rates s t r = simp ((site.by_sub_areas_alone s t r).0, r.parts)
 
 pub built_afresh : BuiltAfresh
 built_afresh rates s steps h =

@@ -116,10 +116,10 @@ module _ (ds rs ps : List ℕ) where
   unfolding verdict_of lengths_fit
   rules_fine s =
       simp (
-        le-leb 1 (length ds) s.some-depths,
-        le-leb (length ds) most_depths s.few-depths,
-        le-leb 1 (length rs) s.some-rates,
-        le-leb (length rs) most_rates s.few-rates,
+        le-leb 1 (length ds) s.some_depths,
+        le-leb (length ds) most_depths s.few_depths,
+        le-leb 1 (length rs) s.some_rates,
+        le-leb (length rs) most_rates s.few_rates,
         eq-eqb (length ps) (length rs * length ds) s.one_each,
         le-ltb (offending_depth ds) (length ds) (in_step_none ds (length ds) 1 highest_depth s.depths),
         le-ltb (offending_rate rs) (length rs) (kept_rates rs s.rates),

@@ -1,7 +1,7 @@
 -- Laws of numbers that rise: the walk over them, what is asked of them, one more and one less.
 -- Assumes nothing.
 use Prim.Native.Nat.{ℕ, zero, suc, ◌+◌, ◌≤◌, ◌<◌}
-use mathlib.Core.Bool.{Bool, true, false, ◌&&◌, and-eq-true_iff, and_true, and_false, and_assoc}
+use mathlib.Core.Bool.{Bool, true, false, ◌&&◌, and-eq-true_iff, and-true, and-false, and_assoc}
 use mathlib.Core.List.{List, [], ◌∷◌, ◌++◌}
 use mathlib.Core.Path.{◌≡◌, sym, ◌∙◌, ap}
 use native.Mathlib.Omega.{arith}
@@ -15,11 +15,11 @@ use Rattle.site.specs.Promises.{Rise}
 
 -- A number above the last goes on with what rose so far,
 pub above_goes_on : (rises : Bool) (low n : ℕ) → low < n → rises ≡ (rises && ltb low n)
-above_goes_on rises low n h = rw (lt-ltb low n h) (sym (and_true rises))
+above_goes_on rises low n h = rw (lt-ltb low n h) (sym (and-true rises))
 
 -- and another ends it.
 pub below_ends : (rises : Bool) (low n : ℕ) → n ≤ low → false ≡ (rises && ltb low n)
-below_ends rises low n h = rw (le-ltb low n h) (sym (and_false rises))
+below_ends rises low n h = rw (le-ltb low n h) (sym (and-false rises))
 
 -- Whether the numbers before place i rise, up to `low`, decides with what is left.
 abbrev pub Rising : ℕ → List ℕ → Bool → ℕ → ℕ → Type 0

@@ -82,7 +82,7 @@ add_granted_exactly s p total a j = (only, there)
         → (fits p ≡ true) × (s.count < most_parts) × (s.counter < spent_at) × (total + area_of p ≡ a) × (a ≤ most_area)
     only h =
         let g = grants s.count s.counter total p (record { 0 = a }) ((adds_agree s p total j).1 ∙ given_granted (added s p).answer a h) in
-        let n : total + area_of p ≡ a = ap (λ (x : Area). x.0) g.new-total in
+        let n : total + area_of p ≡ a = ap (λ (x : Area). x.0) g.new_total in
         let w = g.within in
         (g.fit, g.place, g.unspent, n, omega arith)
 
@@ -234,7 +234,7 @@ granted_holds s p a z e =
     let g = f.2 in
     rw (stores s p (record { 0 = a }) x) (
       parts_stored s p z g.place,
-      ap given (stored_fine s p f.0 z f.1 g.fit g.place g.within ∙ ap Granted g.new-total),
+      ap given (stored_fine s p f.0 z f.1 g.fit g.place g.within ∙ ap Granted g.new_total),
       refl,
       numbers_stored s p z g.place,
       refl,

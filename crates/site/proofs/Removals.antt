@@ -145,8 +145,8 @@ module _ (s : Site) (total : Area) (t : Told s total) (n i : ℕ) (h : i < lengt
   pub numbers_without : numbers_of (without s i) ≡ take i (numbers_of s) ++ drop (i + 1) (numbers_of s)
   numbers_without = closed s.numbers t.memory.numbers
 
-  taken_out : LeftWithout s n (without s i)
-  taken_out =
+  taken_out_lem : LeftWithout s n (without s i)
+  taken_out_lem =
       let b = below in
       let here = part_there in
       record {
@@ -175,7 +175,7 @@ module _ (s : Site) (total : Area) (t : Told s total) (n i : ℕ) (h : i < lengt
   -- and the site without the sub-area is judged fine with it.
   pub without_fine : judged (without s i) ≡ Granted (record { 0 = total.0 - area_of (get_or (parts_of s) i blank) })
   without_fine =
-      let o = taken_out in
+      let o = taken_out_lem in
       let k = judged_has s total t.fine in
       let c = k.0 in
       let most = k.3 in
@@ -195,7 +195,7 @@ removal_holds s n a z e =
     let h = f.2 in
     let out = f.3 in
     let i = place_of n (numbers_of s) in
-    rw out (taken_out s f.0 t n i h (stands s n h), ap given (without_fine s f.0 t n i h (stands s n h) ∙ sym (ap (λ (r : Removed). r.answer) out) ∙ x))
+    rw out (taken_out_lem s f.0 t n i h (stands s n h), ap given (without_fine s f.0 t n i h (stands s n h) ∙ sym (ap (λ (r : Removed). r.answer) out) ∙ x))
 
 pub removed_only_held : RemovedOnlyHeld
 removed_only_held s n j = (only, there)

@@ -80,18 +80,18 @@ remove_goes s n sound = told (removed s n).answer refl
   where
     told : (x : AreaAnswer) → (removed s n).answer ≡ x → Went s (remove n) (removed s n).site
     told (Granted a) e =
-        let f = removal.from-held s n a e in
+        let f = removal.from_held s n a e in
         let t : Told s f.0 = record { memory = sound.1.memory; fine = f.1 } in
         let h = f.2 in
         let i = place_of n (numbers_of s) in
         let k = judged_has s f.0 f.1 in
         let c = numbers_counted s f.0 t in
-        let area = removal.left-area s f.0 t n i h (removal.stands s n h) in
+        let area = removal.left_area s f.0 t n i h (removal.stands s n h) in
         let total = k.2 in
         let less : takes s (remove n) ≡ area_of (get_or (parts_of s) i blank) = ap (after_judging (λ why. 0) (λ total. area_of (get_or (parts_of s) i blank))) e in
         rw f.3
         (record {
-          sound = (_, record { memory = memory_without s f.0 t i (omega arith); fine = removal.without-fine s f.0 t n i h (removal.stands s n h) });
+          sound = (_, record { memory = memory_without s f.0 t i (omega arith); fine = removal.without_fine s f.0 t n i h (removal.stands s n h) });
           area = omega arith;
         })
     told (Refused why) e =
@@ -145,7 +145,7 @@ counter_kept : (s : Site) (n : ℕ) → (removed s n).site.counter ≡ s.counter
 counter_kept s n = told (removed s n).answer refl
   where
     told : (x : AreaAnswer) → (removed s n).answer ≡ x → (removed s n).site.counter ≡ s.counter
-    told (Granted a) e = ap (λ (r : Removed). r.site.counter) (removal.from-held s n a e).3
+    told (Granted a) e = ap (λ (r : Removed). r.site.counter) (removal.from_held s n a e).3
     told (Refused why) e = ap (λ (r : Removed). r.site.counter) (removal.keeps s n why e)
 
 -- The numbers that are given are those from the counter on.

@@ -41,8 +41,8 @@ depth_refused s v = (depth_own s v, depth_above s v)
 pub six_areas_suffice : SixAreasSuffice
 six_areas_suffice = (
   volume_gathered,
-  λ s d h. let g = site.given-some (judged s) h in volume_same s g.0 g.1 d,
-  λ s v h. let g = site.given-some (judged s) h in depth_same s g.0 g.1 v,
+  λ s d h. let g = site.given_some (judged s) h in volume_same s g.0 g.1 d,
+  λ s v h. let g = site.given_some (judged s) h in depth_same s g.0 g.1 v,
 )
 
 pub past_count_unread : PastCountUnread
@@ -55,6 +55,6 @@ past_count_unread s t r =
 pub by_sub_areas_alone : BySubAreasAlone
 unfolding volume_answer depth_answer gathered_answer
 by_sub_areas_alone s t r =
-    let e = (site.by-sub-areas-alone s t r).0 in
+    let e = (site.by_sub_areas_alone s t r).0 in
     let p = r.parts in
     (λ d. simp (e, p), λ v. simp (e, p), simp (e, p))

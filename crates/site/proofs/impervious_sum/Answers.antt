@@ -1,0 +1,24 @@
+-- `site::impervious_sum` meets its contract: the loop's invariant says that the sum so far, with what is left, is the whole sum.
+-- It fits, being at most the total area.
+-- Assumes nothing.
+use borrow.Author.Rules.{rules}
+use Prim.Native.Nat.{◌-◌}
+use mathlib.Core.Path.{◌≡◌, sym, ◌∙◌}
+use lib.ListN.{length, length-map}
+use Rattle.site.specs.Parts.{most_parts}
+use Rattle.site.proofs.Sums.{sum_starts, sum_next, sum_ends, impervious_fits}
+use Rattle.site.proofs.impervious_sum.Goals as goal
+
+pub loop-place-init : goal.loop-place-init
+loop-place-init c =
+    let len : length c.args.t1.parts ≡ most_parts = sym (length-map c.args.t1.parts _) ∙ c.well-formed.0.1.1.0.1.0.1 in
+    sum_starts _ _ (record { places = len; count = c.requires.count })
+
+pub overflow_add-sum : goal.overflow_add-sum
+overflow_add-sum c = search (impervious_fits, rules)
+
+pub loop-place-preserved : goal.loop-place-preserved
+loop-place-preserved c = search (sum_next, rules)
+
+pub returns : goal.returns
+returns c = search (sum_ends, rules)
