@@ -13,9 +13,9 @@ overflow_sub-last c = let h = c.requires.place in search rules
 
 pub loop-i-init : goal.loop-i-init
 loop-i-init c =
-    let site = c.args.t1 in
-    let parts : length site.parts ≡ most_parts = sym (length-map site.parts _) ∙ c.well-formed.0.1.1.0.1.0.1 in
-    let numbers : length site.numbers ≡ most_parts = sym (length-map site.numbers _) ∙ c.well-formed.0.1.1.1.1.0.1.0.1 in
+    let site = c.args.site in
+    let parts : length site.parts ≡ most_parts = c.well_formed.0.1.1.0.1.0.1 in
+    let numbers : length site.numbers ≡ most_parts = c.well_formed.0.1.1.1.1.0.1.0.1 in
     closing_starts site _ (record { parts = parts; numbers = numbers }) c.requires
 
 pub loop-i-preserved : goal.loop-i-preserved

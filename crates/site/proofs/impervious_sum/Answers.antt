@@ -11,7 +11,7 @@ use Rattle.site.proofs.impervious_sum.Goals as goal
 
 pub loop-place-init : goal.loop-place-init
 loop-place-init c =
-    let len : length c.args.t1.parts ≡ most_parts = sym (length-map c.args.t1.parts _) ∙ c.well-formed.0.1.1.0.1.0.1 in
+    let len : length c.args.site.parts ≡ most_parts = c.well_formed.0.1.1.0.1.0.1 in
     sum_starts _ _ (record { places = len; count = c.requires.count })
 
 pub overflow_add-sum : goal.overflow_add-sum

@@ -13,9 +13,9 @@ returns-then-count-gt-MOST_PARTS c = search (overfull, rules)
 
 pub loop-i-init : goal.loop-i-init
 loop-i-init c =
-    let site = c.args.t1 in
-    let len : length site.parts ≡ most_parts = sym (length-map site.parts _) ∙ c.well-formed.0.1.1.0.1.0.1 in
-    let numbers : length site.numbers ≡ most_parts = sym (length-map site.numbers _) ∙ c.well-formed.0.1.1.1.1.0.1.0.1 in
+    let site = c.args.site in
+    let len : length site.parts ≡ most_parts = c.well_formed.0.1.1.0.1.0.1 in
+    let numbers : length site.numbers ≡ most_parts = c.well_formed.0.1.1.1.1.0.1.0.1 in
     starts site (record { places = len; count = c.if-count-gt-MOST_PARTS.false }) numbers
 
 pub loop-i-preserved : goal.loop-i-preserved

@@ -12,9 +12,9 @@ use Rattle.site.proofs.remove.Goals as goal
 pub remove_from-requires : goal.remove_from-requires
 remove_from-requires c =
     let site = c.args.site in
-    let good = c.well-formed in
-    let parts : length site.parts ≡ most_parts = sym (length-map site.parts _) ∙ good.0.1.1.0.1.0.1 in
-    let numbers : length site.numbers ≡ most_parts = sym (length-map site.numbers _) ∙ good.0.1.1.1.1.0.1.0.1 in
+    let good = c.well_formed in
+    let parts : length site.parts ≡ most_parts = good.0.1.1.0.1.0.1 in
+    let numbers : length site.numbers ≡ most_parts = good.0.1.1.1.1.0.1.0.1 in
     record {
       memory = record { parts = parts; numbers = numbers };
       fine = sym c.judge-found.ensures ∙ c.in-Granted.is;
