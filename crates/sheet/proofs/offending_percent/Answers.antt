@@ -31,9 +31,8 @@ slice_bounds-offending-end c = search (row_within, rules)
 
 pub overflow_add-result : goal.overflow_add-result
 overflow_add-result c =
-    let turn = c in
-    let start = turn.before.before.before in
-    let w = row_within start.args.percents.now start.args.n start.args.rates start.requires turn.before.loop.j turn.loop-test.true in
+    let start = c in
+    let w = row_within start.args.percents.now start.args.n start.args.rates start.requires c.loop-j.j c.loop-j-test.true in
     search rules
 
 pub returns-then-place-n : goal.returns-then-place-n
