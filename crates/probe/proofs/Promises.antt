@@ -21,7 +21,7 @@ use Rattle.laws.proofs.Order.{lt_or_le, never_both}
 use Rattle.probe.specs.declared.Reading.{Reading}
 use Rattle.probe.specs.declared.Reading.TheVariants.{InchesPerHour, MillimetresPerHour}
 use Rattle.probe.specs.declared.RateAnswer.{RateAnswer}
-use Rattle.probe.specs.declared.RateAnswer.TheVariants.{Granted, Refused}
+use Rattle.probe.specs.declared.RateAnswer.TheVariants.{Refused}
 use Rattle.probe.specs.Readings.{rounded, within_most, answer_in, rate_of, given}
 use Rattle.probe.specs.Promises.{up_to, RoundsToNearest, OnlyNearest, not_a_rate, NearestIn, ByNearest, NearestGivenBack, NeverFalls, StaysTooFast}
 use Rattle.probe.proofs.Rounding.{rounded_nearest, rounded_only, rounded_rises}

@@ -10,4 +10,4 @@ pub float_to_bits-x : goal.float_to_bits-x
 float_to_bits-x c = a_number c.args.x c.if-x.false
 
 pub returns : goal.returns
-returns c = bits_stand _ _ c.args.x _ c.well-formed.0.1 c.of_bits.ensures
+returns c = bits_stand _ _ c.args.x _ c.well_formed.0.1 c.of_bits.ensures

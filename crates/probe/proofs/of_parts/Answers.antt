@@ -6,12 +6,12 @@ use Rattle.probe.proofs.Parts.{too_fast, too_faint, product_fits, shifted_positi
 use Rattle.probe.proofs.of_parts.Goals as goal
 
 pub returns-then-twos-ge-FINEST : goal.returns-then-twos-ge-FINEST
-returns-then-twos-ge-FINEST c = too_fast c.requires.0 c.requires.1 (omega arith)
+returns-then-twos-ge-FINEST c = too_fast c.requires.scale c.requires.parts (omega arith)
 
 pub returns-then-halvings-ge-FAINT : goal.returns-then-halvings-ge-FAINT
 returns-then-halvings-ge-FAINT c =
     let pre = c.requires in
-    too_faint pre.0 pre.1 (omega arith) (omega arith) c.within_most.ensures
+    too_faint pre.scale pre.parts (omega arith) (omega arith) c.within_most.ensures
 
 pub overflow_mul-wide : goal.overflow_mul-wide
 overflow_mul-wide c = rw c.wide.ensures (search (product_fits, rules))
@@ -22,4 +22,4 @@ rounded-requires c = search (shifted_positive, rules)
 pub returns : goal.returns
 returns c =
     let pre = c.requires in
-    counted pre.0 pre.1 (omega arith) (omega arith) c.wide.ensures c.rounded.ensures c.within_most-2.ensures
+    counted pre.scale pre.parts (omega arith) (omega arith) c.wide.ensures c.rounded.ensures c.within_most-2.ensures
