@@ -104,7 +104,7 @@ refused_in_order sheet n s mode r =
     let rs = rates_in sheet n in
     let ps = percents_in sheet n in
     record {
-      judged_first_lem = λ h wanted. refused_first sheet n s mode r wanted h;
+      judged_first = λ h wanted. refused_first sheet n s mode r wanted h;
       no_sheet = λ h e wanted. ap given (goes_to_sheet sheet n s mode r wanted h ∙ sheet_missing n (parts_of s) mode r wanted sheet e);
       unfit = λ b list place e wanted.
           ap given (begun_is sheet n s mode r wanted b ∙ parts_bad n (parts_of s) mode r wanted ds rs ps list place (unfit_told ds rs ps mode r list place e));

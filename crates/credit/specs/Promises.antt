@@ -98,7 +98,7 @@ pub record Begun (sheet : Sheet) (n : Nutrient) (s : Site) : Type 0 where
 -- What is refused, and in which order: the site record is judged before all else, and then 4 or 5, 6, 7, 8, 9, 15 and 10 are tried
 -- (Rules, "The numbers given back"). Each line supposes that nothing before it arises; 15 never does.
 pub record Refusals (sheet : Sheet) (n : Nutrient) (s : Site) (mode : Mode) (r : ℕ) : Type 0 where
-  pub judged_first_lem : ((area_given (judged s)).0 ≡ granted → ⊥) → AllGive sheet n s mode r (area_given (judged s)).0 0 0
+  pub judged_first : ((area_given (judged s)).0 ≡ granted → ⊥) → AllGive sheet n s mode r (area_given (judged s)).0 0 0
   pub no_sheet : (area_given (judged s)).0 ≡ granted → is_there sheet n ≡ false → AllGive sheet n s mode r (number_of NoPublishedSheet) 0 0
   pub unfit : Begun sheet n s → (list place : ℕ) → UnfitAt (depths_in sheet) (rates_in sheet n) (percents_in sheet n) list place
       → AllGive sheet n s mode r (number_of UnfitSheet) list place

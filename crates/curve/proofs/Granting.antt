@@ -60,7 +60,7 @@ pub percents_given : PercentsGiven
 unfolding percent_answer
 percents_given ds rs ps mode r d g =
     record {
-      on_grid_lem = λ h. rw (granted_admitted mode g) (simp (le-leb d highest_depth h));
+      on_grid = λ h. rw (granted_admitted mode g) (simp (le-leb d highest_depth h));
       too_deep = λ h. rw (granted_admitted mode g) (simp (lt-leb d highest_depth h));
     }
 

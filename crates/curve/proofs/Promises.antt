@@ -47,12 +47,12 @@ never_falls_with_rate ds rs ps faster mode r q d g f h =
 pub finds_the_least : FindsTheLeast
 finds_the_least ds rs ps mode r target g h =
     record {
-      on_grid_lem = on_grid_lem;
+      on_grid = on_grid;
       reaches =
-          let l = on_grid_lem in
+          let l = on_grid in
           ltb-false (percent_of ds rs ps mode r (depth_reaching (percent_of ds rs ps mode r) target)) target (first_fails (test ds rs ps mode r target) grid_depths (omega arith));
       least = λ e l. fails_so_below (test ds rs ps mode r target) grid_depths e (le-ltb (percent_of ds rs ps mode r e) target l);
     }
   where
-    on_grid_lem : depth_reaching (percent_of ds rs ps mode r) target ≤ highest_depth
-    on_grid_lem = fails_so_below (test ds rs ps mode r target) grid_depths highest_depth (le-ltb (percent_of ds rs ps mode r highest_depth) target h)
+    on_grid : depth_reaching (percent_of ds rs ps mode r) target ≤ highest_depth
+    on_grid = fails_so_below (test ds rs ps mode r target) grid_depths highest_depth (le-ltb (percent_of ds rs ps mode r highest_depth) target h)

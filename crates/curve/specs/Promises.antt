@@ -118,7 +118,7 @@ NeverFallsWithRate =
 
 -- what the rules say of a target's depth: it is a grid depth whose percent is at least the target, and no lower depth has such a percent
 pub record IsLeast (percent : ℕ → ℕ) (target d : ℕ) : Type 0 where
-  pub on_grid_lem : d ≤ highest_depth
+  pub on_grid : d ≤ highest_depth
   pub reaches : target ≤ percent d
   pub least : (e : ℕ) → target ≤ percent e → d ≤ e
 
@@ -181,7 +181,7 @@ HeldIsTheLast =
 
 -- What is given back for a usable sheet and rate: the percent at a depth of the grid, with its basis, and 9 above it;
 pub record PercentGiven (ds rs ps : List ℕ) (mode : Mode) (r d : ℕ) : Type 0 where
-  pub on_grid_lem : d ≤ highest_depth
+  pub on_grid : d ≤ highest_depth
       → given (percent_answer ds rs ps mode r d) ≡ (granted, percent_of ds rs ps mode r d, basis_number (basis_of ds rs mode r d), 0, 0)
   pub too_deep : highest_depth < d → given (percent_answer ds rs ps mode r d) ≡ (number_of AmountOutOfRange, 0, 0, 0, 0)
 
