@@ -2,12 +2,8 @@
 -- Assumes nothing.
 use mathlib.Core.Path.{refl}
 use Rattle.published.specs.Published.{all_sheets}
-use Rattle.published.proofs.sheets.Statement.{statement}
-use Rattle.published.proofs.sheets.Tie as tie
+use Rattle.published.proofs.sheets.Goals as goal
 
-returns : tie.Need-returns
+pub returns : goal.returns
 unfolding all_sheets
 returns c = refl
-
-pub sheets-spec : {M : Type 1} → statement M
-sheets-spec = tie.close (tie.spec returns)

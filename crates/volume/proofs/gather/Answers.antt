@@ -1,0 +1,14 @@
+-- `volume::gather` meets its contract: a record that is judged fine has its six areas, and a refused one none.
+-- Assumes nothing.
+use borrow.Author.Rules.{rules}
+use Rattle.volume.proofs.Answered.{fine_known, gather_granted, gather_refused}
+use Rattle.volume.proofs.gather.Goals as goal
+
+pub six_areas-requires : goal.six_areas-requires
+six_areas-requires c = search (fine_known, rules)
+
+pub returns-in-Granted : goal.returns-in-Granted
+returns-in-Granted c = search (gather_granted, rules)
+
+pub returns-in-Refused : goal.returns-in-Refused
+returns-in-Refused c = search (gather_refused, rules)
