@@ -40,8 +40,9 @@ endif
 $(archive): $(sources)
 	@tools/kit || [ $$? -eq 1 ]
 	@echo "make: the library is proved and built first, which takes some minutes" >&2
-	flock . rt staticlib sagecruet
-	@touch $@
+	@rm -f $@ && mkdir -p $(@D)
+	flock . sh -c 'cd crates/sagecruet && rt lib'
+	cp crates/sagecruet/out/libsagecruet.a $@
 
 shared: $(shared)
 

@@ -15,7 +15,7 @@ fn main() {
     };
     let archive = folder.join("libsagecruet.a");
     if !archive.is_file() {
-        panic!("{} is not there: run `rt staticlib sagecruet`", archive.display());
+        panic!("{} is not there: run `make` in the repository's folder", archive.display());
     }
     println!("cargo:rerun-if-changed={}", archive.display());
     println!("cargo:rustc-link-search=native={}", folder.display());

@@ -12,6 +12,7 @@ import argparse
 import re
 import signal
 import sys
+import textwrap
 from pathlib import Path
 
 # What --help says of the argument DOCUMENT.
@@ -64,6 +65,11 @@ def scaled(word, places):
     if not found or len(found.group(2) or "") > places:
         raise SystemExit(f"not a decimal of at most {places} places: {word!r}")
     return int(found.group(1) + (found.group(2) or "").ljust(places, "0"))
+
+
+def filled(numbers):
+    """The numbers of an array as rt fmt lays them out: as many to a line as fit."""
+    return textwrap.fill(" ".join(f"{number}," for number in numbers), 99, initial_indent="    ", subsequent_indent="    ")
 
 
 class Document:

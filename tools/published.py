@@ -8,7 +8,7 @@
 A column that breaks a sheet rule is left out: its practice keeps its other rates, and has none where none remains.
 """
 
-from document import NUTRIENTS, PRACTICES, Document, words_for
+from document import NUTRIENTS, PRACTICES, Document, filled, words_for
 
 
 def fits(percents):
@@ -41,17 +41,21 @@ def constant(name, kind, values):
     """A constant as rt fmt lays it out: on one line where it fits."""
     opened = f"pub const {name}: [{kind}; {len(values)}] = ["
     line = opened + ", ".join(map(str, values)) + "];"
-    return [line] if len(line) <= 100 else [opened] + [f"    {n}," for n in values] + ["];"]
+    return [line] if len(line) <= 100 else [opened, filled(values), "];"]
+
+
+def column(name, nutrient):
+    """The name of a practice's percents."""
+    return f"{name}_{nutrient.lower()}"
 
 
 def specs(document):
     out = [
         '-- Rules, "Practices covered": the columns of Tables 3-6 to 3-25 but 3-22. Made by tools/published.py from document 001.',
         "-- Assumes nothing.",
-        "use Prim.Native.Nat.{ℕ}",
-        "use mathlib.Core.List.{List, [], _∷_}",
-        "use Rattle·units.specs.declared.Nutrient.{Nutrient}",
-        "use Rattle·units.specs.declared.Nutrient.the-variants.{P, N}",
+        "use Rattle.std.specs.Prelude.{ℕ, List, [], ◌∷◌}",
+        "use Rattle.units.specs.declared.Nutrient.{Nutrient}",
+        "use Rattle.units.specs.declared.Nutrient.TheVariants.{P, N}",
         "",
         "-- the depths of every table",
         "abbrev pub depths : List ℕ",
@@ -61,13 +65,13 @@ def specs(document):
         for practice, (name, _) in enumerate(PRACTICES):
             kept = columns(document, practice, nutrient)
             tables = ", ".join(f"3-{number}" for number, _, _ in kept)
-            out += ["", f"-- {name}, {nutrient}: Table{'s' if len(kept) > 1 else ''} {tables}", f"abbrev pub {name}{nutrient} : List ℕ", f"{name}{nutrient} ="]
+            out += ["", f"-- {name}, {nutrient}: Table{'s' if len(kept) > 1 else ''} {tables}", f"abbrev pub {column(name, nutrient)} : List ℕ", f"{column(name, nutrient)} ="]
             out += [f"    {listed(percents).rstrip()}" for _, _, percents in kept] + ["    []"]
     out += ["", "-- the sheets by practice number: rates, and percents rate by rate", "abbrev pub sheets : Nutrient → List (List ℕ × List ℕ)"]
     for nutrient in NUTRIENTS:
         out += [f"sheets {nutrient} ="]
         for practice, (name, _) in enumerate(PRACTICES):
-            out += [f"    ({listed([rate for _, rate, _ in columns(document, practice, nutrient)])}[], {name}{nutrient}) ∷"]
+            out += [f"    ({listed([rate for _, rate, _ in columns(document, practice, nutrient)])}[], {column(name, nutrient)}) ∷"]
         out += ["    []"]
     return out
 

@@ -28,8 +28,8 @@ LARGEST = 65_535
 
 HEAD = """\
 // The sheet of 1,005 numbers: five soils by 201 depths, thirty-thousandths of an inch.
-ghost use mathlib.Core.Path.{_≡_};
-ghost use Rattle·runoff·specs.specs.Runoff.{runoffSheet};
+ghost use Rattle.std.specs.Prelude.{◌≡◌};
+ghost use Rattle.runoff.specs.Runoff.{runoff_sheet};
 
 const SHEET: [u16; 1005] = [
 """
@@ -38,7 +38,7 @@ FOOT = """\
 
 // The whole sheet, to be lent to whoever looks up entries.
 pub fn sheet() -> [u16; 1005]
-    ensures { λ r. ⌜ r ≡ runoffSheet ⌝ }
+    ensures { result ≡ runoff_sheet }
 {
     SHEET
 }
@@ -87,7 +87,7 @@ def sheet_text(rows):
     entries = [runoff(rows, column, depth) for column in range(1, 6) for depth in range(DEEPEST + 1)]
     if not all(0 <= entry <= LARGEST for entry in entries):
         raise SystemExit(f"runoff_sheet: an entry is above {LARGEST}, the most that the sheet can hold")
-    return HEAD + "".join(f"    {entry},\n" for entry in entries) + FOOT
+    return HEAD + document.filled(entries) + "\n" + FOOT
 
 
 def first_difference(stored, made):

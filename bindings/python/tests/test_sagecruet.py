@@ -705,7 +705,7 @@ class Curves(unittest.TestCase):
     @needs_repository
     def test_rates_are_those_of_the_tables(self):
         text = (ROOT / "crates" / "published" / "specs" / "Tables.antt").read_text(encoding="utf-8")
-        for name in ("trenchP", "trenchN", "basinP", "basinN"):
+        for name in ("trench_p", "trench_n", "basin_p", "basin_n"):
             listed = re.search(rf"\((.*) ∷ \[\], {name}\)", text)[1]
             self.assertEqual(tuple(int(rate) for rate in listed.split(" ∷ ")), sagecruet.RATES)
 
