@@ -5,4 +5,4 @@ use Rattle.sagecruet.specs.Numbers.{of_written}
 use Rattle.sagecruet.proofs.sagecruet_answer.Goals as goal
 
 pub returns : goal.returns
-returns c = (c.of_written.ensures ∙ ap of_written c.answer.ensures.0, c.answer.ensures.1)
+returns c = record { value = c.of_written.ensures ∙ ap of_written c.answer.ensures.value; buf_after = c.answer.ensures.buf_after }

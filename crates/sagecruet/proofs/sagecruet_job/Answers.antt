@@ -5,4 +5,4 @@ use Rattle.sagecruet.specs.Numbers.{of_job}
 use Rattle.sagecruet.proofs.sagecruet_job.Goals as goal
 
 pub returns : goal.returns
-returns c = (c.of_job.ensures ∙ ap of_job c.write.ensures.0, c.write.ensures.1)
+returns c = record { value = c.of_job.ensures ∙ ap of_job c.write.ensures.value; text_after = c.write.ensures.text_after }

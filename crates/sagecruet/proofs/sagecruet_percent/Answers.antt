@@ -3,4 +3,4 @@
 use Rattle.sagecruet.proofs.sagecruet_percent.Goals as goal
 
 pub returns : goal.returns
-returns c = rw (c.of_percent.ensures, c.percent.ensures, c.Mode-of.ensures)
+returns c = rw (c.of_percent.ensures, c.percent.ensures, c.mode_of.ensures)

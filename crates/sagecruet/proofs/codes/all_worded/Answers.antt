@@ -3,6 +3,8 @@
 use borrow.Author.Rules.{rules}
 use Prim.Native.Nat.{◌-◌}
 use Rattle.sagecruet.proofs.Reading.{tried_none, land_there, cover_there, soil_there, one_fits, two_fits, four_fits, tried_stops, tried_next, tried_all}
+use mathlib.Core.Bool.{not}
+use mathlib.Core.Path.{ap}
 use Rattle.sagecruet.proofs.codes.all_worded.Goals as goal
 
 pub loop-i-init : goal.loop-i-init
@@ -31,7 +33,7 @@ overflow_add-at c = search (four_fits, rules)
 
 pub loop-i-preserved : goal.loop-i-preserved
 loop-i-preserved c =
-    tried_next c.loop-i.invariant c.loop-i-test.true c.part_worded.ensures c.if-not-part_worded.false
+    tried_next c.loop-i.invariant c.loop-i-test.true c.part_worded.ensures (ap not c.if-not-part_worded.false)
 
 pub returns : goal.returns
 returns c = search (tried_all, rules)

@@ -46,9 +46,8 @@ loop-i-preserved c = search (walked_next, rules)
 
 pub returns : goal.returns
 returns c =
-    let start = c in
     let site = walked_all c.loop-i.invariant c.loop-i-test.false in
-    let written = c.write.ensures in (
-      written.0 ∙ ap (job_written start.args.text.now start.args.job) site,
-      written.1 ∙ ap (job_buffer start.args.text.now start.args.job) site,
-    )
+    record {
+      value = c.write.ensures.value ∙ ap (job_written c.args.text.now c.args.job) site;
+      text_after = c.write.ensures.buf_after ∙ ap (job_buffer c.args.text.now c.args.job) site;
+    }
