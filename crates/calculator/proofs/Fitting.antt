@@ -1,23 +1,18 @@
 -- The refusal of a text is the one that fits: that of its reading, or that of its task.
 -- Assumes nothing.
 use Prim.Native.Nat.{ℕ, ◌<◌}
-use mathlib.Core.Bool.{Bool, true, false}
-use mathlib.Core.List.{List, [], ◌∷◌}
+use mathlib.Core.Bool.{true}
+use mathlib.Core.List.{List}
 use mathlib.Core.Logic.{◌⊎◌, inl, inr, ⊎_elim, ◌↔◌}
 use mathlib.Core.Path.{◌≡◌, refl, sym, ◌∙◌, ap, subst}
 use native.Mathlib.Omega.{arith}
-use lib.Dec.{eqb}
 use borrow.Author.Tests.{eq-eqb, ne_eqb}
 use Rattle.laws.proofs.Order.{never_both}
-use Rattle.refusal.specs.declared.Refusal.{Refusal}
 use Rattle.refusal.specs.declared.Refusal.TheVariants as refused
 use Rattle.refusal.specs.Refusal.{number_of, granted}
 use Rattle.refusal.proofs.Numbers.{refusal_not_granted}
-use Rattle.units.specs.declared.Area.{Area}
 use Rattle.units.specs.declared.Nutrient.{Nutrient}
 use Rattle.site.specs.declared.Site.{Site}
-use Rattle.site.specs.declared.AreaAnswer.{AreaAnswer}
-use Rattle.site.specs.declared.AreaAnswer.TheVariants as area
 use Rattle.site.specs.Parts.{parts_of}
 use Rattle.site.specs.Judging.{judged, given as area_given}
 use Rattle.loads.specs.Rates.{export_rates}
@@ -25,7 +20,6 @@ use Rattle.loads.specs.Loads.{load_of, load_answer, given as load_given}
 use Rattle.loads.proofs.Promises.{load_granted_exactly}
 use Rattle.loads.specs.declared.LoadAnswer.{LoadAnswer}
 use Rattle.loads.specs.declared.LoadAnswer.TheVariants as load
-use Rattle.credit.specs.declared.CreditAnswer.{CreditAnswer}
 use Rattle.credit.specs.declared.CreditAnswer.TheVariants as credit
 use Rattle.credit.specs.declared.Wanted.{Wanted}
 use Rattle.curve.specs.declared.Mode.{Mode}
@@ -44,7 +38,7 @@ use Rattle.job.proofs.Refusals.{refused_numbers}
 use Rattle.answer.specs.declared.Outcome.{Outcome}
 use Rattle.answer.specs.declared.Outcome.TheVariants.{Granted, Refused, BadSheet}
 use Rattle.answer.specs.Outcomes.{given, fault_line}
-use Rattle.calculator.specs.Outcome.{of_load, of_credit, of_load_job, of_task, of_reading, outcome_of}
+use Rattle.calculator.specs.Outcome.{of_load_job, of_task, outcome_of}
 use Rattle.calculator.specs.Promises.{Answered, FaultLine, Reads, InALine, RefusalFits, NeverForNumbers, LoadJob}
 use Rattle.site.proofs.Promises.{given_some}
 use Rattle.calculator.proofs.Finding.{does_not_read}

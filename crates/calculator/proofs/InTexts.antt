@@ -10,12 +10,11 @@ use Rattle.credit.specs.Answers.{Sheet, answer_of, credit as credit_of, size as 
 use Rattle.credit.specs.Promises.{Credited, Sized}
 use Rattle.credit.proofs.Promises.{more_storage_never_less, higher_target_never_smaller, sizing_agrees, sized_is_least}
 use Rattle.job.specs.declared.Job.{Job}
-use Rattle.job.specs.declared.Task.{Task}
 use Rattle.job.specs.declared.Task.TheVariants as task
 use Rattle.answer.specs.Outcomes.{given, fault_line}
 use Rattle.calculator.specs.Outcome.{of_credit, of_task, outcome_of}
 use Rattle.calculator.proofs.Finding.{reads}
-use Rattle.calculator.specs.Promises.{Answered, FaultLine, Reads, asking, CreditJob, SizeJob, TypedBack, MoreStorageInTexts, HigherTargetInTexts}
+use Rattle.calculator.specs.Promises.{Answered, Reads, asking, CreditJob, SizeJob, TypedBack, MoreStorageInTexts, HigherTargetInTexts}
 
 -- A text that reads has the outcome of its task.
 pub worked_out : (sheet : ℕ → Sheet) (text : List ℕ) {j : Job} {s : Site} → Reads text j s

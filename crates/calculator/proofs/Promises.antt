@@ -12,7 +12,6 @@ use borrow.Author.Tests.{le-ltb}
 use Rattle.refusal.specs.declared.Refusal.TheVariants.{UnfitSheet}
 use Rattle.refusal.specs.Refusal.{granted}
 use Rattle.refusal.proofs.Numbers.{refusal_not_granted}
-use Rattle.job.specs.declared.JobAnswer.TheVariants as job
 use Rattle.answer.specs.declared.Outcome.{Outcome}
 use Rattle.answer.specs.declared.Outcome.TheVariants.{Granted, Refused, BadSheet}
 use Rattle.answer.specs.Outcomes.{given, fault_line}

@@ -1,13 +1,12 @@
 -- Which tests a granted answer passed before it came to the work, and what the work then gives.
 -- Assumes nothing.
 use Prim.Native.Nat.{ℕ, ◌≤◌, ◌<◌}
-use mathlib.Core.Bool.{Bool, true, false}
+use mathlib.Core.Bool.{Bool}
 use mathlib.Core.List.{List, [], ◌∷◌}
 use mathlib.Core.Path.{◌≡◌, refl, sym, ◌∙◌}
 use lib.Dec.{leb}
 use lib.ListN.{get_or}
 use borrow.Author.Tests.{leb-true}
-use Rattle.laws.specs.Turn.{in_turn}
 use Rattle.refusal.specs.declared.Refusal.{Refusal}
 use Rattle.refusal.specs.declared.Refusal.TheVariants.{NoPublishedSheet, UnfitSheet, RateOutOfRange, RateBelowSheet, TargetUnreachable}
 use Rattle.refusal.specs.Refusal.{granted}
@@ -29,7 +28,6 @@ use Rattle.sheet.proofs.Rules.{fine_rules, rules_fine}
 use Rattle.curve.specs.declared.Mode.{Mode}
 use Rattle.curve.specs.declared.Curves.{Curves}
 use Rattle.curve.specs.declared.Basis.{Basis}
-use Rattle.curve.specs.declared.Admission.{Admission}
 use Rattle.curve.specs.declared.Admission.TheVariants as admission
 use Rattle.curve.specs.Curve.{curves_of, percent_of, depth_reaching}
 use Rattle.curve.specs.Basis.{basis_of}

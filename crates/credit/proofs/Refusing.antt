@@ -6,10 +6,9 @@ use mathlib.Core.Bool.{Bool, true, false, ◌&&◌, not}
 use mathlib.Core.List.{List, [], ◌∷◌}
 use mathlib.Core.Path.{◌≡◌, refl}
 use lib.Dec.{leb, eqb}
-use lib.ListN.{get_or}
 use Rattle.laws.specs.Turn.{in_turn}
 use Rattle.refusal.specs.declared.Refusal.{Refusal}
-use Rattle.refusal.specs.declared.Refusal.TheVariants.{NoPublishedSheet, RateOutOfRange, RateBelowSheet}
+use Rattle.refusal.specs.declared.Refusal.TheVariants.{NoPublishedSheet}
 use Rattle.refusal.specs.Refusal.{number_of}
 use Rattle.units.specs.declared.Area.{Area}
 use Rattle.units.specs.declared.Nutrient.{Nutrient}
@@ -29,11 +28,11 @@ use Rattle.curve.specs.declared.Admission.TheVariants as admission
 use Rattle.curve.specs.declared.Basis.{Basis}
 use Rattle.curve.specs.Curve.{curves_of, percent_at}
 use Rattle.curve.specs.Basis.{basis_at}
-use Rattle.curve.specs.Answers.{fastest_taken, rated, judged_first, admission_of}
+use Rattle.curve.specs.Answers.{rated, judged_first, admission_of}
 use Rattle.published.specs.Tables.{depths}
 use Rattle.published.specs.Published.{rates_of, percents_of, is_published}
 use Rattle.credit.specs.declared.CreditAnswer.{CreditAnswer}
-use Rattle.credit.specs.declared.CreditAnswer.TheVariants.{Granted, Refused}
+use Rattle.credit.specs.declared.CreditAnswer.TheVariants.{Refused}
 use Rattle.credit.specs.declared.Wanted.{Wanted}
 use Rattle.credit.specs.declared.Wanted.TheVariants.{Credit, Size}
 use Rattle.credit.specs.Credit.{tried, credit_by, size_by}

@@ -1,6 +1,6 @@
 -- Laws of the answers for a site: what is worked out from its six areas and its load is what the definitions say of its sub-areas.
 -- Assumes nothing.
-use Prim.Native.Nat.{ℕ, ◌≤◌, ◌<◌}
+use Prim.Native.Nat.{ℕ}
 use mathlib.Core.List.{List}
 use mathlib.Core.Path.{◌≡◌, refl, sym, ◌∙◌, ap, fun_ext}
 use native.Mathlib.Omega.{arith}

@@ -1,3 +1,2 @@
 // Mathematics only, nothing of stormwater: definitions in specs/, laws in proofs/. There is no code here.
 #![tactic(auto)]
-

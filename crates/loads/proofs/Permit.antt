@@ -26,8 +26,6 @@ use Rattle.site.specs.Judging.{judged}
 use Rattle.site.specs.Judging as site
 use Rattle.site.proofs.Judging.{judged_fine}
 use Rattle.site.proofs.Promises.{given_refused, given_some}
-use Rattle.loads.specs.declared.LoadAnswer.{LoadAnswer}
-use Rattle.loads.specs.declared.LoadAnswer.TheVariants.{Granted, Refused}
 use Rattle.loads.specs.Rates.{table_most, export_rates, rate_place}
 use Rattle.loads.specs.Loads.{part_load, load_of, load_under, load_answer, given}
 use Rattle.loads.proofs.Places.{place_below}

@@ -27,7 +27,7 @@ use Rattle.volume.specs.declared.Areas.{Areas}
 use Rattle.volume.specs.declared.Gathered.{Gathered}
 use Rattle.volume.specs.declared.VolumeAnswer.{VolumeAnswer}
 use Rattle.volume.specs.declared.VolumeAnswer.TheVariants.{Granted, Refused}
-use Rattle.volume.specs.Volume.{volume_of, depth_within, depth_of}
+use Rattle.volume.specs.Volume.{depth_within, depth_of}
 use Rattle.volume.specs.Areas.{no_areas, areas_of, total_of, within_limit, volume_from}
 use Rattle.volume.specs.Inner.{Six}
 use Rattle.volume.specs.Answers.{not_past, volume_answer, depth_answer, gathered_answer, volume_on, depth_on}

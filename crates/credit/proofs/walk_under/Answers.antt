@@ -2,7 +2,6 @@
 -- the six areas and the load that are carried. All sums fit, since the total area is at most the largest.
 -- Assumes nothing.
 use borrow.Author.Rules.{rules}
-use Prim.Native.Nat.{◌-◌}
 use mathlib.Core.Path.{◌≡◌}
 use lib.ListN.{length}
 use Rattle.site.specs.Parts.{most_parts}

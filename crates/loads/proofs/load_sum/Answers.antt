@@ -1,9 +1,8 @@
 -- `loads::load_sum` meets its contract: the loop's invariant says that the sum so far, with what is left, is the whole load, and that it stays small.
 -- Assumes nothing.
 use borrow.Author.Rules.{rules}
-use Prim.Native.Nat.{◌-◌}
-use mathlib.Core.Path.{◌≡◌, sym, ◌∙◌}
-use lib.ListN.{length, length-map}
+use mathlib.Core.Path.{◌≡◌}
+use lib.ListN.{length}
 use Rattle.site.specs.Parts.{most_parts}
 use Rattle.loads.proofs.Summing.{load_starts, load_ends, area_small, sum_fits, load_next}
 use Rattle.loads.proofs.load_sum.Goals as goal

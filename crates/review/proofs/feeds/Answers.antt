@@ -1,6 +1,5 @@
 -- `review::feeds` meets its contract: the line feeds that were counted and those of the rest are those of the whole.
 -- Assumes nothing.
-use Prim.Native.Nat.{◌-◌}
 use borrow.Author.Rules.{rules}
 use Rattle.review.proofs.Counting.{counted_none, counted_next, counted_room, counted_all, counted_few}
 use Rattle.review.proofs.feeds.Goals as goal

@@ -1,6 +1,5 @@
 -- `rewrite::write_c` meets its contract: with each turn one byte more is changed in its place.
 -- Assumes nothing.
-use Prim.Native.Nat.{◌-◌}
 use borrow.Author.Rules.{rules}
 use Rattle.rewrite.proofs.Changing.{changed_none, changed_next, changed_all}
 use Rattle.rewrite.proofs.write_c.Goals as goal

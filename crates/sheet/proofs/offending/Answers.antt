@@ -1,6 +1,5 @@
 -- `sheet::offending` meets its contract: it walks as far as every number is in step, and carries the number before.
 -- Assumes nothing.
-use Prim.Native.Nat.{◌-◌}
 use borrow.Author.Rules.{rules}
 use Rattle.sheet.proofs.Carrying.{carry_start, carry_found, carry_on, carry_end}
 use Rattle.sheet.proofs.offending.Goals as goal

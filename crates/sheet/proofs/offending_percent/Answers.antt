@@ -1,6 +1,5 @@
 -- `sheet::offending_percent` meets its contract: it walks over the rows as far as every number is in step.
 -- Assumes nothing.
-use Prim.Native.Nat.{◌-◌}
 use borrow.Author.Rules.{rules}
 use Rattle.sheet.proofs.Carrying.{rows_start, rows_end, row_within, row_found, row_passes}
 use Rattle.sheet.proofs.offending_percent.Goals as goal

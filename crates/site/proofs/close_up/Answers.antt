@@ -1,9 +1,8 @@
 -- `site::close_up` meets its contract: the loop's invariant says that the gap is closed as far as place i.
 -- Assumes nothing.
 use borrow.Author.Rules.{rules}
-use Prim.Native.Nat.{◌-◌}
-use mathlib.Core.Path.{◌≡◌, sym, ◌∙◌}
-use lib.ListN.{length, length-map}
+use mathlib.Core.Path.{◌≡◌}
+use lib.ListN.{length}
 use Rattle.site.specs.Parts.{most_parts}
 use Rattle.site.proofs.Removing.{closing_starts, closing_next, closing_ends}
 use Rattle.site.proofs.close_up.Goals as goal

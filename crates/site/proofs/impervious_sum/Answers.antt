@@ -2,9 +2,8 @@
 -- It fits, being at most the total area.
 -- Assumes nothing.
 use borrow.Author.Rules.{rules}
-use Prim.Native.Nat.{◌-◌}
-use mathlib.Core.Path.{◌≡◌, sym, ◌∙◌}
-use lib.ListN.{length, length-map}
+use mathlib.Core.Path.{◌≡◌}
+use lib.ListN.{length}
 use Rattle.site.specs.Parts.{most_parts}
 use Rattle.site.proofs.Sums.{sum_starts, sum_next, sum_ends, impervious_fits}
 use Rattle.site.proofs.impervious_sum.Goals as goal

@@ -1,9 +1,8 @@
 -- `site::judge` meets its contract: the loop's invariant says that what is left, with the total area so far, decides as the whole record does.
 -- Assumes nothing.
 use borrow.Author.Rules.{rules}
-use Prim.Native.Nat.{◌-◌}
-use mathlib.Core.Path.{◌≡◌, sym, ◌∙◌}
-use lib.ListN.{length, length-map}
+use mathlib.Core.Path.{◌≡◌}
+use lib.ListN.{length}
 use Rattle.site.specs.Parts.{most_parts}
 use Rattle.site.proofs.Walking.{overfull, starts, passes, refuses, numbers_there, numbers_counted, ends_fine, ends_unnumbered}
 use Rattle.site.proofs.judge.Goals as goal

@@ -2,7 +2,6 @@
 -- them, decides as all of them do.
 -- Assumes nothing.
 use borrow.Author.Rules.{rules}
-use Prim.Native.Nat.{◌-◌}
 use mathlib.Core.Path.{refl}
 use Rattle.site.proofs.Numbering.{rise_on, rise_ends}
 use Rattle.site.proofs.numbered.Goals as goal

@@ -1,7 +1,6 @@
 -- `site::place_of` meets its contract: the number stands at no place before i.
 -- Assumes nothing.
 use borrow.Author.Rules.{rules}
-use Prim.Native.Nat.{◌-◌}
 use Rattle.laws.proofs.Walk.{walk_start, walk_end}
 use Rattle.site.proofs.Removing.{stands_at, goes_past}
 use Rattle.site.proofs.place_of.Goals as goal

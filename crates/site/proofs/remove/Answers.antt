@@ -2,7 +2,7 @@
 -- definition.
 -- Assumes nothing.
 use mathlib.Core.Path.{◌≡◌, sym, ◌∙◌}
-use lib.ListN.{length, length-map}
+use lib.ListN.{length}
 use Rattle.site.proofs.Judging.{stops}
 use Rattle.site.proofs.Removing.{removal_agrees}
 use Rattle.site.specs.Parts.{most_parts}

@@ -1,6 +1,5 @@
 -- `text::agreed` meets its contract: what the texts have in common goes on behind the bytes that were passed, and ends where they differ or one of them does.
 -- Assumes nothing.
-use Prim.Native.Nat.{◌-◌}
 use borrow.Author.Rules.{rules}
 use Rattle.text.proofs.Alike.{agreed_none, agreed_not, agreed_next, agreed_all}
 use Rattle.text.proofs.agreed.Goals as goal

@@ -1,6 +1,5 @@
 -- `text::digits` meets its contract: the bytes that were passed are digits, and make the number so far. It has fewer than fourteen digits, so there is room for one more.
 -- Assumes nothing.
-use Prim.Native.Nat.{◌-◌}
 use borrow.Author.Rules.{rules}
 use native.Mathlib.Omega.{arith}
 use Rattle.text.proofs.Reading.{room, made_none, made_below, made_above, made_next, made_all}

@@ -1,6 +1,5 @@
 -- `text::first` meets its contract: the bytes that were passed are none of them b, so the first b of the rest is that of the whole.
 -- Assumes nothing.
-use Prim.Native.Nat.{◌-◌}
 use borrow.Author.Rules.{rules}
 use Rattle.text.proofs.Splitting.{passed_none, passed_found, passed_next, passed_all}
 use Rattle.text.proofs.first.Goals as goal

@@ -1,6 +1,5 @@
 -- `text::same` meets its contract: texts of other lengths differ, and those of one length are alike up to the place that is looked at.
 -- Assumes nothing.
-use Prim.Native.Nat.{◌-◌}
 use borrow.Author.Rules.{rules}
 use Rattle.text.proofs.Alike.{longer_differs, alike_none, alike_not, alike_next, alike_all}
 use Rattle.text.proofs.same.Goals as goal

@@ -1,6 +1,5 @@
 -- `text::start` meets its contract: each turn goes from the start of a piece to the start of the next; once a piece runs to the end, all later ones start there.
 -- Assumes nothing.
-use Prim.Native.Nat.{◌-◌}
 use borrow.Author.Rules.{rules}
 use Rattle.text.specs.Pieces.{start_of}
 use Rattle.text.proofs.Splitting.{start_next, start_ends, start_there}

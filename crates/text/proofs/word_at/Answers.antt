@@ -1,6 +1,5 @@
 -- `text::word_at` meets its contract: the rows that were looked at do not hold the word, so its place among all of them is its place among the rest.
 -- Assumes nothing.
-use Prim.Native.Nat.{◌-◌}
 use borrow.Author.Rules.{rules}
 use native.Mathlib.Omega.{arith}
 use Rattle.text.proofs.Rows.{no_rows, sought_none, sought_all, sought_room, sought_few, size_within, sought_fits, sought_found, sought_next}

@@ -2,9 +2,8 @@
 -- come to those of the site. A sum fits, being at most the total area.
 -- Assumes nothing.
 use borrow.Author.Rules.{rules}
-use Prim.Native.Nat.{◌-◌}
-use mathlib.Core.Path.{◌≡◌, sym, ◌∙◌}
-use lib.ListN.{length, length-map}
+use mathlib.Core.Path.{◌≡◌}
+use lib.ListN.{length}
 use Rattle.site.specs.Parts.{most_parts}
 use Rattle.volume.proofs.Gathering.{gather_starts, gather_next, gather_fits, gather_ends}
 use Rattle.volume.proofs.six_areas.Goals as goal

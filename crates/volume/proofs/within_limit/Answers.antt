@@ -1,8 +1,7 @@
 -- `volume::within_limit` meets its contract: the loop's invariant says that the total so far, with what is left, is the whole total.
 -- Assumes nothing.
-use Prim.Native.Nat.{◌-◌}
-use mathlib.Core.Path.{◌≡◌, sym, ◌∙◌}
-use lib.ListN.{length, length-map}
+use mathlib.Core.Path.{◌≡◌}
+use lib.ListN.{length}
 use borrow.Author.Rules.{rules}
 use Rattle.volume.proofs.Limit.{total_starts, total_passed, total_next, total_fits, total_within}
 use Rattle.volume.proofs.within_limit.Goals as goal

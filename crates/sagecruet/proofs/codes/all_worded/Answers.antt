@@ -1,7 +1,6 @@
 -- `sagecruet::codes::all_worded` meets its contract: the codes so far have words, and those that are left decide.
 -- Assumes nothing.
 use borrow.Author.Rules.{rules}
-use Prim.Native.Nat.{◌-◌}
 use Rattle.sagecruet.proofs.Reading.{tried_none, land_there, cover_there, soil_there, one_fits, two_fits, four_fits, tried_stops, tried_next, tried_all}
 use mathlib.Core.Bool.{not}
 use mathlib.Core.Path.{ap}

@@ -1,7 +1,6 @@
 -- `sagecruet::codes::write_with` meets its contract: the sub-areas so far are stored, and with those that are left the record is whole.
 -- Assumes nothing.
 use borrow.Author.Rules.{rules}
-use Prim.Native.Nat.{◌-◌}
 use mathlib.Core.Path.{refl, ◌∙◌, ap}
 use Rattle.jobtext.specs.Text.{job_written, job_buffer}
 use Rattle.sagecruet.proofs.Words.{part_told}
