@@ -19,9 +19,12 @@
 // phosphorus, or 0 where the record is refused.
 #![tactic(auto)]
 
-use libc::{STDIN_FILENO, STDOUT_FILENO};
+ghost use Rattle.std.specs.Io.{ReadsAtMost};
+
 use loads::LoadAnswer;
 use site::{Added, AreaAnswer, Cover, LandUse, Site, Soil, SubArea};
+use std::io;
+use std::io::Read;
 use text::Numeral;
 use units::{Area, Nutrient};
 
@@ -136,9 +139,9 @@ fn step(s: &[u8], at: &mut usize, site: Site) -> Added {
     }
 }
 
-fn print(number: u64, end: &[u8]) {
-    io::print_decimal(STDOUT_FILENO, number);
-    io::write_all(STDOUT_FILENO, end);
+fn print(rt: &impl Print, number: u64, end: &[u8]) -> io::Result<()> {
+    rt.print(number)?;
+    rt.write_all(end)
 }
 
 fn land_number(land: LandUse) -> u64 {
@@ -175,80 +178,91 @@ fn soil_number(soil: Soil) -> u64 {
 }
 
 // Prints the answer of a step and the number that it gave.
-fn print_answer(answer: AreaAnswer, given: u32) {
+fn print_answer(rt: &impl Print, answer: AreaAnswer, given: u32) -> io::Result<()> {
     match answer {
         AreaAnswer::Granted(total) => {
-            print(0, b" ");
-            print(wide(given), b" ");
-            print(total.0, b" ");
+            print(rt, 0, b" ")?;
+            print(rt, wide(given), b" ")?;
+            print(rt, total.0, b" ")
         }
         AreaAnswer::Refused(why) => {
-            print(refusal::number(why), b" ");
-            print(wide(given), b" ");
-            print(0, b" ");
+            print(rt, refusal::number(why), b" ")?;
+            print(rt, wide(given), b" ")?;
+            print(rt, 0, b" ")
         }
     }
 }
 
-fn print_place(number: u32, part: SubArea) {
+fn print_place(rt: &impl Print, number: u32, part: SubArea) -> io::Result<()> {
     let land = part.land;
     let cover = part.cover;
     let soil = part.soil;
     let area = part.area;
-    print(wide(number), b" ");
-    print(land_number(land), b" ");
-    print(cover_number(cover), b" ");
-    print(soil_number(soil), b" ");
-    print(area.0, b" ");
+    print(rt, wide(number), b" ")?;
+    print(rt, land_number(land), b" ")?;
+    print(rt, cover_number(cover), b" ")?;
+    print(rt, soil_number(soil), b" ")?;
+    print(rt, area.0, b" ")
 }
 
-fn print_places(site: Site) {
+fn print_places(rt: &impl Print, site: Site) -> io::Result<()> {
     for i in 0..site::MOST_PARTS {
         let number = site.numbers[i];
         let part = site.parts[i];
-        print_place(number, part);
+        print_place(rt, number, part)?;
     }
+    Ok(())
 }
 
-fn print_load(site: Site) {
+fn print_load(rt: &impl Print, site: Site) -> io::Result<()> {
     let found = loads::load(site, Nutrient::P);
     match found {
-        LoadAnswer::Granted(load) => print(load.0, b"\n"),
-        LoadAnswer::Refused(_) => print(0, b"\n"),
+        LoadAnswer::Granted(load) => print(rt, load.0, b"\n"),
+        LoadAnswer::Refused(_) => print(rt, 0, b"\n"),
     }
 }
 
 // Prints the line of a step.
-fn say(made: Added) {
+fn say(rt: &impl Print, made: Added) -> io::Result<()> {
     let answer = made.answer;
     let site = made.site;
-    print_answer(answer, made.number);
-    print(site.count as u64, b" ");
-    print(wide(site.counter), b" ");
-    print_places(site);
-    print_load(site);
+    print_answer(rt, answer, made.number)?;
+    print(rt, site.count as u64, b" ")?;
+    print(rt, wide(site.counter), b" ")?;
+    print_places(rt, site)?;
+    print_load(rt, site)
 }
 
 // Reads a record and makes the steps behind it. A step that is of the form leads further, and not past the end.
-fn run(s: &[u8]) {
+fn run(rt: &impl Print, s: &[u8]) -> io::Result<()> {
     let mut at = 0;
     let mut site = record(s, &mut at);
     while at < s.len() {
         let from = at;
         let made = step(s, &mut at, site);
         if at <= from {
-            return;
+            return Ok(());
         }
         if s.len() < at {
-            return;
+            return Ok(());
         }
-        say(made);
+        say(rt, made)?;
         site = made.site;
     }
+    Ok(())
 }
 
-fn main() {
+// Reads until the buffer is full or the input ends, and answers how many bytes came.
+fn read_full(input: &mut impl Read, buf: &mut [u8]) -> io::Result<usize>
+    ensures { ReadsAtMost result buf.new }
+{
+    let most = buf.len();
+    let read = io::copy(&mut input.take(most as u64), &mut &mut buf[..])?;
+    Ok(most.min(read as usize))
+}
+
+fn main(rt: HostRuntime) -> io::Result<()> {
     let mut text = [0u8; 4096];
-    let n = io::read_full(STDIN_FILENO, &mut text);
-    run(&text[..n]);
+    let n = read_full(&mut rt.stdin(), &mut text)?;
+    run(&rt, &text[..n])
 }
