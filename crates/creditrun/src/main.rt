@@ -1,26 +1,37 @@
 // Rules, "Job and answer text": the program reads a job from standard input and prints its answer.
 #![tactic(auto)]
 
-use libc::{STDIN_FILENO, STDOUT_FILENO};
+ghost use Rattle.std.specs.Io.{ReadsAtMost};
+
+use std::io;
+use std::io::Read;
 use writing::Written;
 
-fn main() {
+fn main(rt: HostRuntime) -> io::Result<()> {
     // One byte more than the longest job text, so that a longer one is told from it.
     let mut text = [0u8; 4097];
-    let n = io::read_full(STDIN_FILENO, &mut text);
+    let n = read_full(&mut rt.stdin(), &mut text)?;
     let mut buf = [0u8; answer::LONGEST];
     let written = calculator::answer(&text[..n], &mut buf);
     match written {
-        Written::Granted(length) => {
-            print(&buf, length);
-        }
-        Written::Refused(_) => {}
+        Written::Granted(length) => print(&rt, &buf, length),
+        Written::Refused(_) => Ok(()),
     }
 }
 
+// Reads until the buffer is full or the input ends, and answers how many bytes came.
+fn read_full(input: &mut impl Read, buf: &mut [u8]) -> io::Result<usize>
+    ensures { ReadsAtMost result buf.new }
+{
+    let most = buf.len();
+    let read = io::copy(&mut input.take(most as u64), &mut &mut buf[..])?;
+    Ok(most.min(read as usize))
+}
+
 // Prints the first bytes of a buffer.
-fn print(buf: &[u8], length: usize) {
+fn print(rt: &impl Print, buf: &[u8], length: usize) -> io::Result<()> {
     if length <= buf.len() {
-        io::write_all(STDOUT_FILENO, &buf[..length]);
+        rt.write_all(&buf[..length])?;
     }
+    Ok(())
 }
