@@ -50,6 +50,7 @@ fn put(text: &[u8], line: &mut [u8], at: usize) -> usize {
 }
 
 // Puts a space and the digits of a number into a line.
+#[tactic(auto, unfolding(writing::specs::Writing::put_length))]
 fn put_number(number: u64, line: &mut [u8], at: usize) -> usize {
     let mut digits = [0u8; 20];
     let count = writing::put_number(number, &mut digits);
