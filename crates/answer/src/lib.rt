@@ -38,6 +38,7 @@ pub fn room() -> usize
 }
 
 // Writes the text of an outcome at the start of buf, refused 13 where buf is shorter.
+#[tactic(auto, using(writing::proofs::Writing::long_told))]
 pub fn write(outcome: Outcome, buf: &mut [u8]) -> Written
     ensures value { result ≡ written_of buf.old (answer_text outcome) }
     ensures buf_after { buf.new ≡ buffer_of buf.old (answer_text outcome) }

@@ -99,6 +99,7 @@ fn read_area(text: &[u8], at: usize) -> AreaStep
 }
 
 // What the areas come to at the end of the text.
+#[tactic(auto, using(crate::proofs::Walking::end_missing))]
 fn ended(job: Job, line: usize, site: Site) -> Reading
     ensures { result ≡ ended_at job [] line site }
 {

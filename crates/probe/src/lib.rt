@@ -117,6 +117,7 @@ fn rounded(n: u64, d: u64) -> u64
 }
 
 // What was rounded is the rate, unless it is over the largest.
+#[tactic(auto, using(crate::proofs::Parts::granted_within))]
 fn within_most(hundredths: u64) -> RateAnswer
     ensures { result ≡ within_most hundredths }
 {

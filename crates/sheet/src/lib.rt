@@ -118,6 +118,7 @@ fn offending_rate(rates: &[u64]) -> usize
 }
 
 // Whether there is the single rate 0, which a practice without rates has.
+#[tactic(auto, using(crate::proofs::Verdicts::single))]
 pub fn without_rates(rates: &[u64]) -> bool
     ensures { result ≡ without_rates rates.now }
 {

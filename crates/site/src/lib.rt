@@ -311,6 +311,7 @@ pub fn impervious_area(site: Site) -> AreaAnswer
 
 // What an add answers, given the count, the counter and the total area of a site: the new total, or the refusal. Where it is
 // granted there is a place for the sub-area at the count, and a number for it.
+#[tactic(auto, using(crate::proofs::Adding::add_full))]
 pub fn add_answer(count: usize, counter: u32, total: Area, part: SubArea) -> AreaAnswer
     ensures { result ≡ add_answer count counter total.0 part }
 {

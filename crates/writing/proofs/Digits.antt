@@ -97,6 +97,10 @@ module _ {n count rest : ℕ} (p : Counted n count rest) where
 pub width_short : {n count : ℕ} → count ≡ length (decimal_of n) → n < 2 ^ 64 → count ≤ 20
 width_short {n} {count} e h = let f = word_digits n h in omega arith
 
+-- a number below ten has one digit
+pub length_one : (n : ℕ) → n < 10 → length (decimal_of n) ≡ 1
+length_one n h = ap length (one_digit n h)
+
 -- in a part that is filled with the digits of n from the last on, those of rest are left, of which the last goes to a place
 pub record Spelled (d₀ : List ℕ) (n : ℕ) (d : List ℕ) (rest at : ℕ) : Type 0 where
   pub long : length d ≡ length d₀
@@ -169,3 +173,7 @@ module _ {n place : ℕ} (d : List ℕ) (h : n < 10) (g : place < length d) wher
   digit_buffer {b} e =
       rw (set_split d 0 b (omega arith), e)
       (rw (one_digit n h) (pasted_start d ((digit_zero + n) ∷ [])) ∙ granted_buffer d (decimal_of n) one_fits)
+
+-- what is answered for one digit, as a buffer with a place has it
+pub one_put : (d : List ℕ) (n : ℕ) → n < 10 → 0 < length d → 1 ≡ put_length d (decimal_of n)
+one_put d n h g = digit_length d h g

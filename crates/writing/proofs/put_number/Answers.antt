@@ -2,11 +2,7 @@
 -- Assumes nothing.
 use borrow.Author.Rules.{rules}
 use Rattle.writing.proofs.Writing.{refused_length, refused_buffer, no_part, part_long, part_fits_lem, part_length, part_buffer}
-use Rattle.writing.proofs.Digits.{digit_length, digit_buffer}
 use Rattle.writing.proofs.put_number.Goals as goal
-
-pub returns-then-buf-gt0 : goal.returns-then-buf-gt0
-returns-then-buf-gt0 c = record { value = search (digit_length, rules); buf_after = search (digit_buffer, rules) }
 
 pub returns-then-buf-digits : goal.returns-then-buf-digits
 returns-then-buf-digits c = record { value = search (refused_length, no_part, rules); buf_after = search (refused_buffer, no_part, rules) }
