@@ -41,8 +41,8 @@ $(archive): $(sources)
 	@tools/kit || [ $$? -eq 1 ]
 	@echo "make: the library is proved and built first, which takes some minutes" >&2
 	@rm -f $@ && mkdir -p $(@D)
-	flock . sh -c 'cd crates/sagecruet && rt lib'
-	cp crates/sagecruet/out/libsagecruet.a $@
+	flock . sh -c 'cd crates/sagecruet_c && rt lib'
+	cp crates/sagecruet_c/out/libsagecruet_c.a $@
 
 shared: $(shared)
 

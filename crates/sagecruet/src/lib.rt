@@ -1,4 +1,4 @@
-// The C interface: what the library answers, as numbers and texts. include/sagecruet.h says the same for C.
+// What the library answers, as numbers and texts: the calls that `sagecruet_c` hands to C. include/sagecruet.h says the same for C.
 #![tactic(auto)]
 
 ghost use Rattle.std.specs.Prelude.{◌≡◌};
@@ -180,8 +180,7 @@ fn reading_in(millimetres: bool, reading: f32) -> Reading
 }
 
 // The answer text of a job on the published tables.
-#[unsafe(no_mangle)]
-pub extern "C" fn sagecruet_answer(text: &[u8], buf: &mut [u8]) -> usize
+pub fn sagecruet_answer(text: &[u8], buf: &mut [u8]) -> usize
     ensures value { result ≡ of_written (written_of buf.old (answer_text (outcome_of by_tables text.now))) }
     ensures buf_after { buf.new ≡ buffer_of buf.old (answer_text (outcome_of by_tables text.now)) }
 {
@@ -189,8 +188,7 @@ pub extern "C" fn sagecruet_answer(text: &[u8], buf: &mut [u8]) -> usize
 }
 
 // The answer text of a job on a lent sheet.
-#[unsafe(no_mangle)]
-pub extern "C" fn sagecruet_answer_on(
+pub fn sagecruet_answer_on(
     text: &[u8],
     depths: &[u64],
     rates: &[u64],
@@ -204,8 +202,7 @@ pub extern "C" fn sagecruet_answer_on(
 }
 
 // The offending part of a job text.
-#[unsafe(no_mangle)]
-pub extern "C" fn sagecruet_fault(text: &[u8]) -> Part
+pub fn sagecruet_fault(text: &[u8]) -> Part
     ensures { result ≡ of_span (fault_of text.now) }
 {
     let span = job::fault_span(text);
@@ -216,8 +213,7 @@ pub extern "C" fn sagecruet_fault(text: &[u8]) -> Part
 }
 
 // An answer text that somebody else made, checked against the one of a job on the published tables.
-#[unsafe(no_mangle)]
-pub extern "C" fn sagecruet_check(text: &[u8], claimed: &[u8]) -> Check
+pub fn sagecruet_check(text: &[u8], claimed: &[u8]) -> Check
     ensures { result ≡ of_check (given claimed.now (check_of text.now claimed.now)) }
 {
     let found = review::check(text, claimed);
@@ -236,16 +232,14 @@ pub extern "C" fn sagecruet_check(text: &[u8], claimed: &[u8]) -> Check
 }
 
 // A stored job text, rewritten in its place.
-#[unsafe(no_mangle)]
-pub extern "C" fn sagecruet_rewrite(text: &mut [u8])
+pub fn sagecruet_rewrite(text: &mut [u8])
     ensures { text.new ≡ rewritten_of text.old }
 {
     rewrite::rewrite(text)
 }
 
 // A job text, written from numbers.
-#[unsafe(no_mangle)]
-pub extern "C" fn sagecruet_job(
+pub fn sagecruet_job(
     practice: u64,
     nutrient: u64,
     mode: u64,
@@ -262,16 +256,14 @@ pub extern "C" fn sagecruet_job(
 }
 
 // The test of a sheet.
-#[unsafe(no_mangle)]
-pub extern "C" fn sagecruet_sheet(depths: &[u64], rates: &[u64], percents: &[u64]) -> Verdict
+pub fn sagecruet_sheet(depths: &[u64], rates: &[u64], percents: &[u64]) -> Verdict
     ensures { result ≡ of_verdict (verdict_of depths.now rates.now percents.now) }
 {
     of_verdict(sheet::judge(depths, rates, percents))
 }
 
 // The percent of a sheet at a rate and a depth, with its basis.
-#[unsafe(no_mangle)]
-pub extern "C" fn sagecruet_percent(
+pub fn sagecruet_percent(
     depths: &[u64],
     rates: &[u64],
     percents: &[u64],
@@ -292,8 +284,7 @@ pub extern "C" fn sagecruet_percent(
 }
 
 // The rate of a probe reading.
-#[unsafe(no_mangle)]
-pub extern "C" fn sagecruet_reading(millimetres: bool, reading: f32) -> Value
+pub fn sagecruet_reading(millimetres: bool, reading: f32) -> Value
     ensures { result ≡ of_rate (rate_of (reading_in millimetres reading)) }
 {
     of_rate(probe::rate(reading_in(millimetres, reading)))
