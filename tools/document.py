@@ -67,9 +67,9 @@ def scaled(word, places):
     return int(found.group(1) + (found.group(2) or "").ljust(places, "0"))
 
 
-def filled(numbers):
+def filled(numbers, indent="    "):
     """The numbers of an array as rt fmt lays them out: as many to a line as fit."""
-    return textwrap.fill(" ".join(f"{number}," for number in numbers), 99, initial_indent="    ", subsequent_indent="    ")
+    return textwrap.fill(" ".join(f"{number}," for number in numbers), 99, initial_indent=indent, subsequent_indent=indent)
 
 
 class Document:

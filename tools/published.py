@@ -37,11 +37,10 @@ def listed(numbers):
     return "".join(underscored(n) + " ∷ " for n in numbers)
 
 
-def constant(name, kind, values):
-    """A constant as rt fmt lays it out: on one line where it fits."""
-    opened = f"pub const {name}: [{kind}; {len(values)}] = ["
-    line = opened + ", ".join(map(str, values)) + "];"
-    return [line] if len(line) <= 100 else [opened, filled(values), "];"]
+def field(name, values):
+    """A field of a sheet as rt fmt lays it out: on one line where it fits."""
+    line = f"        {name}: &[" + ", ".join(map(str, values)) + "],"
+    return [line] if len(line) <= 100 else [f"        {name}: &[", filled(values, " " * 12), "        ],"]
 
 
 def column(name, nutrient):
@@ -77,25 +76,25 @@ def specs(document):
 
 
 def source(document):
-    starts, counts, numbers = [], [], grid(document)
-    for nutrient in NUTRIENTS:
-        for practice in range(len(PRACTICES)):
-            kept = columns(document, practice, nutrient)
-            starts.append(len(numbers))
-            counts.append(len(kept))
-            numbers += [rate for _, rate, _ in kept] + [p for _, _, percents in kept for p in percents]
-    return [
+    depths = grid(document)
+    out = [
         "// Made by tools/published.py from document 001.",
         "",
-        "// The depths of every table; then, for P and for N, each practice's rates and its percents, rate by rate.",
-        *constant("SHEETS", "u64", numbers),
+        "use sheet::Sheet;",
         "",
-        "// Where the rates of each practice start, for P and then for N.",
-        *constant("STARTS", "usize", starts),
-        "",
-        "// How many rates it has.",
-        *constant("COUNTS", "usize", counts),
+        "// The depths of every table.",
+        f"const DEPTHS: [u64; {len(depths)}] = [" + ", ".join(map(str, depths)) + "];",
     ]
+    for nutrient in NUTRIENTS:
+        out += ["", f"// The sheets for {nutrient} by practice number.", f"pub static FOR_{nutrient}: [Sheet<'static>; {len(PRACTICES)}] = ["]
+        for practice, (name, _) in enumerate(PRACTICES):
+            kept = columns(document, practice, nutrient)
+            out += [f"    // {name}", "    Sheet {", "        depths: &DEPTHS,"]
+            out += field("rates", [rate for _, rate, _ in kept])
+            out += field("percents", [percent for _, _, percents in kept for percent in percents])
+            out += ["    },"]
+        out += ["];"]
+    return out
 
 
 def docs(document):

@@ -1,5 +1,6 @@
 -- The promises of the answer text and of its writing, proved.
 -- Assumes nothing.
+use Rattle.std.specs.Prelude.{Ok, Err}
 use Prim.Native.Nat.{ℕ, ◌≤◌, ◌<◌}
 use mathlib.Core.Path.{◌≡◌, refl, sym, ◌∙◌, ap}
 use mathlib.Core.List.{List, flatten}
@@ -12,7 +13,7 @@ use Rattle.text.specs.Pieces.{joined, pieces}
 use Rattle.text.specs.Numbers.{decimal_from, decimal_of}
 use Rattle.refusal.specs.declared.Refusal.TheVariants.{UnfitSheet, BufferTooShort}
 use Rattle.refusal.specs.Refusal.{number_of, granted}
-use Rattle.answer.specs.declared.Outcome.TheVariants.{Granted, Refused, BadSheet}
+use Rattle.answer.specs.declared.Failure.TheVariants.{Refused, BadSheet}
 use Rattle.answer.specs.Lines.{answer_text}
 use Rattle.writing.specs.Lines.{line_with}
 use Rattle.writing.specs.Writing.{written_of, written_given}
@@ -24,11 +25,11 @@ pub refused_shorter : RefusedShorter
 refused_shorter = refused_longest
 
 pub never_longer : NeverLonger
-never_longer (Granted f) w = granted_longest f w
-never_longer (Refused why k) w = let l = refused_longest why k w.line in omega arith
-never_longer (BadSheet i j) w =
+never_longer (Ok f) w = granted_longest f w
+never_longer (Err (Refused why k)) w = let l = refused_longest why k w.line in omega arith
+never_longer (Err (BadSheet list place)) w =
     let l = refused_longest UnfitSheet 0 w.line in
-    rw (← sheet_text i j) (omega arith)
+    rw (← sheet_text list place) (omega arith)
 
 pub longest_reached : LongestReached
 unfolding answer_text line_with flatten decimal_of decimal_from pieces joined

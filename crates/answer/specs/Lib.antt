@@ -1,3 +1,4 @@
 pub mod Outcomes
 pub mod Lines
+pub mod Inner
 pub mod Promises

@@ -9,7 +9,7 @@ use Rattle.curve.specs.declared.Basis.{Basis}
 use Rattle.curve.specs.Basis.{basis_number, basis_words}
 use Rattle.credit.specs.Answers.{Given}
 use Rattle.writing.specs.Lines.{line_with, line_of}
-use Rattle.answer.specs.declared.Outcome.{Outcome}
+use Rattle.answer.specs.Outcomes.{Outcome}
 use Rattle.answer.specs.Outcomes.{given, fault_line}
 
 -- the word of a basis

@@ -1,14 +1,14 @@
 -- Rules, "Job and answer text" and "The numbers given back": what is promised of the answer text and of its writing, as statements that
 -- proofs/Promises.antt proves.
 -- Assumes nothing.
-use Rattle.std.specs.Prelude.{ℕ, ◌-◌, ◌≤◌, ◌<◌, ◌^◌, ◌≡◌, List, ◌↔◌, length, take, drop}
+use Rattle.std.specs.Prelude.{ℕ, ◌-◌, ◌≤◌, ◌<◌, ◌^◌, ◌≡◌, List, ◌↔◌, length, take, drop, Ok, Err}
 use Rattle.refusal.specs.declared.Refusal.{Refusal}
 use Rattle.refusal.specs.declared.Refusal.TheVariants.{BufferTooShort}
 use Rattle.refusal.specs.Refusal.{number_of, granted}
 use Rattle.curve.specs.declared.Basis.TheVariants.{Between}
 use Rattle.credit.specs.Credit.{figures}
-use Rattle.answer.specs.declared.Outcome.{Outcome}
-use Rattle.answer.specs.declared.Outcome.TheVariants.{Granted, Refused}
+use Rattle.answer.specs.Outcomes.{Outcome}
+use Rattle.answer.specs.declared.Failure.TheVariants.{Refused}
 use Rattle.answer.specs.Outcomes.{given, fault_line}
 use Rattle.answer.specs.Lines.{answer_text, longest, longest_refused}
 use Rattle.writing.specs.Writing.{written_of, buffer_of, written_given}
@@ -27,11 +27,11 @@ abbrev pub NeverLonger : Type 0
 NeverLonger = (o : Outcome) → Wide o → length (answer_text o) ≤ longest
 
 abbrev pub RefusedShorter : Type 0
-RefusedShorter = (why : Refusal) (k : ℕ) → k < 2 ^ 64 → length (answer_text (Refused why k)) ≤ longest_refused
+RefusedShorter = (why : Refusal) (k : ℕ) → k < 2 ^ 64 → length (answer_text (Err (Refused why k))) ≤ longest_refused
 
 -- The longest length is reached, by the largest numbers of 64 bits and a percent that was found between two depths.
 abbrev pub LongestReached : Type 0
-LongestReached = let most = 2 ^ 64 - 1 in length (answer_text (Granted (figures most most most Between most most))) ≡ longest
+LongestReached = let most = 2 ^ 64 - 1 in length (answer_text (Ok (figures most most most Between most most))) ≡ longest
 
 -- Writing gives 13 exactly when the buffer is shorter than the text, and else 0 and the text's length: it has no other refusal.
 abbrev pub OnlyTooShort : Type 0

@@ -1,34 +1,59 @@
 // Rules, "Job and answer text": a finished outcome, and its text written into a lent buffer.
 #![tactic(auto)]
 
-ghost use Rattle.std.specs.Prelude.{◌≡◌, ◌≤◌, ltb, length};
+ghost use Rattle.std.specs.Prelude.{◌≡◌, ◌≤◌, ltb, length, Ok, Err};
 ghost use Rattle.writing.specs.Writing.{written_of, put_length, buffer_of};
 ghost use Rattle.laws.specs.Text.{bytes};
-ghost use Rattle.writing.specs.Lines.{line_with, line_of};
+ghost use Rattle.writing.specs.Lines.{line_with};
+ghost use Rattle.writing.specs.Writer.{so_far, added, all_added};
 ghost use Rattle.answer.specs.Lines.{basis_word, answer_text, longest};
+ghost use Rattle.answer.specs.Outcomes.{outside, failure_of};
+ghost use Rattle.answer.specs.Inner.{lines_of};
 
 use credit::Figures;
-use curve::Basis;
+use curve::{Basis, SheetError};
 use refusal::Refusal;
-use writing::Written;
+use writing::Writer;
 
-// How a job ended.
-#[derive(Clone, Copy)]
-pub enum Outcome {
-    Granted(Figures),
+// Why a job has no figures.
+#[derive(Clone, Copy, Debug, PartialEq, Eq)]
+pub enum Failure {
     // The job's line in which the refusal arose, counted from 1, or 0.
     Refused { why: Refusal, line: usize },
-    // Refusal 5 of a lent sheet: the list that breaks a rule, and the place in it.
+    // Refusal 5 of a lent sheet: the number of the list that breaks a rule, and the place in it. A number and no Part of a sheet: write has
+    // a text for any.
     BadSheet { list: u64, place: usize },
+}
+
+// A refusal that arose in no line of the job.
+impl From<Refusal> for Failure {
+    ghost from_gives = { λ why failure. failure ≡ outside why };
+
+    fn from(why: Refusal) -> Failure {
+        Failure::Refused { why, line: 0 }
+    }
+}
+
+// What crediting and sizing refuse arose in no line either.
+impl From<SheetError> for Failure {
+    ghost from_gives = { λ error failure. failure ≡ failure_of error };
+
+    fn from(error: SheetError) -> Failure {
+        match error {
+            SheetError::Unfit(fault) => Failure::BadSheet {
+                list: fault.part.number(),
+                place: fault.place,
+            },
+            SheetError::Refused(why) => Failure::from(why),
+        }
+    }
 }
 
 // The length of the longest text: a buffer of this size is never too short.
 pub const LONGEST: usize = 161;
 
-// The words of a basis. They stand in the order of its cases, with a row for each that is as wide as the longest.
-const BASES: [u8; 35] = *b"none   printedbetweenstart  held   ";
-
-const BASIS_WIDTH: usize = 7;
+// The words of a basis, in the order of its cases.
+const BASES: [&[u8]; 5] = [b"none", b"printed", b"between", b"start", b"held"];
 
 // The same as an answer: room for the text of any outcome.
 pub fn room() -> usize
@@ -37,34 +62,36 @@ pub fn room() -> usize
     LONGEST
 }
 
-// Writes the text of an outcome at the start of buf, refused 13 where buf is shorter.
+// Writes the text of an outcome at the start of buf, refused 13 where buf is shorter; a text of an outcome in memory, whose numbers have
+// 64 bits, is never longer than the longest.
 #[tactic(auto, using(writing::proofs::Writing::long_told))]
-pub fn write(outcome: Outcome, buf: &mut [u8]) -> Written
+pub fn write(outcome: Result<Figures, Failure>, buf: &mut [u8]) -> Result<usize, Refusal>
     ensures value { result ≡ written_of buf.old (answer_text outcome) }
     ensures buf_after { buf.new ≡ buffer_of buf.old (answer_text outcome) }
+    ensures never_longer { length (answer_text outcome) ≤ longest }
 {
     if too_short(outcome, buf.len()) {
-        return Written::Refused(Refusal::BufferTooShort);
+        return Err(Refusal::BufferTooShort);
     }
-    Written::Granted(put_text(outcome, buf))
+    Ok(put_text(outcome, buf))
 }
 
 // Whether so many bytes are too few for the text of an outcome.
-fn too_short(outcome: Outcome, len: usize) -> bool
-    ensures { result ≡ ltb len (length (answer_text outcome)) }
+#[tactic(auto, using(crate::proofs::Texts::granted_never_longer, crate::proofs::Texts::refused_never_longer, crate::proofs::Texts::sheet_never_longer), unfolding(crate::specs::Lines::answer_text))]
+fn too_short(outcome: Result<Figures, Failure>, len: usize) -> bool
+    ensures value { result ≡ ltb len (length (answer_text outcome)) }
+    ensures never_longer { length (answer_text outcome) ≤ longest }
 {
     match outcome {
-        Outcome::Granted(f) => return granted_too_short(f, len),
-        Outcome::Refused { why, line } => return len < refused_size(why, line),
-        Outcome::BadSheet { list: _, place: _ } => {
-            return len < refused_size(Refusal::UnfitSheet, 0);
-        }
+        Ok(f) => granted_too_short(f, len),
+        Err(Failure::Refused { why, line }) => len < refused_size(why, line),
+        Err(Failure::BadSheet { .. }) => len < refused_size(Refusal::UnfitSheet, 0),
     }
 }
 
 // The same for a granted one, whose length is worked out only where the longest text would not fit.
 fn granted_too_short(f: Figures, len: usize) -> bool
-    ensures { result ≡ ltb len (length (answer_text (Outcome.Granted f))) }
+    ensures { result ≡ ltb len (length (answer_text (Ok f))) }
 {
     if LONGEST <= len {
         return false;
@@ -74,7 +101,7 @@ fn granted_too_short(f: Figures, len: usize) -> bool
 
 // The length of a granted text: its keys and line ends, the 0 of its answer, the word of its basis, and the digits of its figures.
 fn granted_size(f: Figures) -> usize
-    ensures { result ≡ length (answer_text (Outcome.Granted f)) }
+    ensures { result ≡ length (answer_text (Ok f)) }
 {
     let how = f.basis;
     54 + basis_size(how)
@@ -89,81 +116,70 @@ fn granted_size(f: Figures) -> usize
 fn basis_size(basis: Basis) -> usize
     ensures { (result ≡ length (basis_word basis)) × (result ≤ 7) }
 {
-    writing::word_size(&BASES, BASIS_WIDTH, curve::basis_number(basis) as usize)
+    writing::word_size(&BASES, basis.number() as usize)
 }
 
 // That of a refused text: its keys and line ends, and the digits of its number and line.
 fn refused_size(why: Refusal, line: usize) -> usize
-    ensures { result ≡ length (answer_text (Outcome.Refused why line)) }
+    ensures { result ≡ length (answer_text (Err (Failure.Refused why line))) }
 {
     14 + writing::width(refusal::number(why)) + writing::width(line as u64)
 }
 
 // Puts the text of an outcome at the start of buf and answers its length.
-fn put_text(outcome: Outcome, buf: &mut [u8]) -> usize
+#[tactic(auto, using(crate::proofs::Texts::put_length_told, crate::proofs::Texts::put_buffer_told))]
+fn put_text(outcome: Result<Figures, Failure>, buf: &mut [u8]) -> usize
     requires { length (answer_text outcome) ≤ length buf.old }
     ensures value { result ≡ put_length buf.old (answer_text outcome) }
     ensures buf_after { buf.new ≡ buffer_of buf.old (answer_text outcome) }
 {
+    let mut out = Writer::new(buf);
+    put_lines(outcome, &mut out);
+    out.at
+}
+
+// Puts the lines of an outcome, each behind the one before it.
+fn put_lines(outcome: Result<Figures, Failure>, out: &mut Writer<'_>)
+    ensures same { out.new.buf.ghost_name ≡ out.old.buf.ghost_name }
+    ensures value { so_far out.new ≡ all_added (so_far out.old) (lines_of outcome) }
+{
     match outcome {
-        Outcome::Granted(f) => return put_granted(f, buf),
-        Outcome::Refused { why, line } => return put_refused(why, line, buf),
-        Outcome::BadSheet { list: _, place: _ } => {
-            return put_refused(Refusal::UnfitSheet, 0, buf);
-        }
+        Ok(f) => put_granted(f, out),
+        Err(Failure::Refused { why, line }) => put_refused(why, line, out),
+        Err(Failure::BadSheet { .. }) => put_refused(Refusal::UnfitSheet, 0, out),
     }
 }
 
-// Puts the lines of a granted outcome, each into the rest of buf behind the one before it.
-fn put_granted(f: Figures, buf: &mut [u8]) -> usize
-    requires { length (answer_text (Outcome.Granted f)) ≤ length buf.old }
-    ensures value { result ≡ put_length buf.old (answer_text (Outcome.Granted f)) }
-    ensures buf_after { buf.new ≡ buffer_of buf.old (answer_text (Outcome.Granted f)) }
+// Those of a granted one: its figures.
+#[tactic(auto, unfolding(writing::specs::Lines::line_with))]
+fn put_granted(f: Figures, out: &mut Writer<'_>)
+    ensures same { out.new.buf.ghost_name ≡ out.old.buf.ghost_name }
+    ensures value { so_far out.new ≡ all_added (so_far out.old) (lines_of (Ok f)) }
 {
-    let how = f.basis;
-    let load = put_line(b"answer=", 0, buf);
-    let depth = load + put_line(b"load=", f.load.0, &mut buf[load..]);
-    let credit = depth + put_line(b"depth=", f.depth.0, &mut buf[depth..]);
-    let basis = credit + put_line(b"credit=", f.percent.0, &mut buf[credit..]);
-    let volume = basis + put_basis(how, &mut buf[basis..]);
-    let removed = volume + put_line(b"volume=", f.volume.0, &mut buf[volume..]);
-    removed + put_line(b"removed=", f.removed.0, &mut buf[removed..])
+    out.number(b"answer=", 0, b'\n');
+    out.number(b"load=", f.load.0, b'\n');
+    out.number(b"depth=", f.depth.0, b'\n');
+    out.number(b"credit=", f.percent.0, b'\n');
+    put_basis(f.basis, out);
+    out.number(b"volume=", f.volume.0, b'\n');
+    out.number(b"removed=", f.removed.0, b'\n');
 }
 
-// Puts the two lines of a refused outcome, the second behind the first.
-fn put_refused(why: Refusal, line: usize, buf: &mut [u8]) -> usize
-    requires { length (answer_text (Outcome.Refused why line)) ≤ length buf.old }
-    ensures value { result ≡ put_length buf.old (answer_text (Outcome.Refused why line)) }
-    ensures buf_after { buf.new ≡ buffer_of buf.old (answer_text (Outcome.Refused why line)) }
+// The line of a basis, which has a word for its value.
+fn put_basis(basis: Basis, out: &mut Writer<'_>)
+    ensures same { out.new.buf.ghost_name ≡ out.old.buf.ghost_name }
+    ensures value { so_far out.new ≡ added (so_far out.old) (line_with (bytes "basis=") (basis_word basis)) }
 {
-    let second = put_line(b"answer=", refusal::number(why), buf);
-    second + put_line(b"line=", line as u64, &mut buf[second..])
+    let k = basis.number() as usize;
+    out.word(b"basis=", &BASES, k, b'\n');
 }
 
-// Puts a line: its key into the part that it fills, the digits of its number into the rest behind it, and LF.
-fn put_line(key: &[u8], n: u64, buf: &mut [u8]) -> usize
-    requires { length (line_of key.now n) ≤ length buf.old }
-    ensures value { result ≡ put_length buf.old (line_of key.now n) }
-    ensures buf_after { buf.new ≡ buffer_of buf.old (line_of key.now n) }
+// Those of a refused one: its number and the job's line.
+#[tactic(auto, unfolding(writing::specs::Lines::line_with))]
+fn put_refused(why: Refusal, line: usize, out: &mut Writer<'_>)
+    ensures same { out.new.buf.ghost_name ≡ out.old.buf.ghost_name }
+    ensures value { so_far out.new ≡ all_added (so_far out.old) (lines_of (Err (Failure.Refused why line))) }
 {
-    let value = key.len();
-    writing::put(key, &mut buf[..value]);
-    let last = value + writing::put_number(n, &mut buf[value..]);
-    buf[last] = b'\n';
-    last + 1
-}
-
-// Puts the line of a basis, which has a word for its value.
-fn put_basis(basis: Basis, buf: &mut [u8]) -> usize
-    requires { length (line_with (bytes "basis=") (basis_word basis)) ≤ length buf.old }
-    ensures value { result ≡ put_length buf.old (line_with (bytes "basis=") (basis_word basis)) }
-    ensures buf_after { buf.new ≡ buffer_of buf.old (line_with (bytes "basis=") (basis_word basis)) }
-{
-    let key: &[u8] = b"basis=";
-    let value = key.len();
-    let k = curve::basis_number(basis) as usize;
-    writing::put(key, &mut buf[..value]);
-    let last = value + writing::put_word(&BASES, BASIS_WIDTH, k, &mut buf[value..]);
-    buf[last] = b'\n';
-    last + 1
+    out.number(b"answer=", refusal::number(why), b'\n');
+    out.number(b"line=", line as u64, b'\n');
 }

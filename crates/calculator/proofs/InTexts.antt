@@ -4,8 +4,9 @@ use Prim.Native.Nat.{ℕ}
 use mathlib.Core.List.{List}
 use mathlib.Core.Path.{◌≡◌, refl, sym, ◌∙◌, ap}
 use Rattle.site.specs.declared.Site.{Site}
-use Rattle.credit.specs.declared.CreditAnswer.{CreditAnswer}
-use Rattle.credit.specs.declared.CreditAnswer.TheVariants as credit
+use Rattle.std.specs.Prelude.{Ok, Err}
+use Rattle.curve.specs.declared.SheetError.TheVariants as error
+use Rattle.credit.specs.Credit.{CreditAnswer}
 use Rattle.credit.specs.Answers.{Sheet, answer_of, credit as credit_of, size as size_of, Given, given as credit_given}
 use Rattle.credit.specs.Promises.{Credited, Sized}
 use Rattle.credit.proofs.Promises.{more_storage_never_less, higher_target_never_smaller, sizing_agrees, sized_is_least}
@@ -19,18 +20,18 @@ use Rattle.calculator.specs.Promises.{Answered, Reads, asking, CreditJob, SizeJo
 -- A text that reads has the outcome of its task.
 pub worked_out : (sheet : ℕ → Sheet) (text : List ℕ) {j : Job} {s : Site} → Reads text j s
     → outcome_of sheet text ≡ of_task j.task (sheet j.practice) j s
-worked_out sheet text {j} h = sym (reads sheet text (sym h) j refl refl)
+worked_out sheet text {j} h = sym (reads sheet text (sym h) refl refl)
 
 -- The outcome of a credit answer gives what the answer gives, and no line.
 pub same_given : (a : CreditAnswer) → given (of_credit a) ≡ credit_given a
-same_given (credit.Granted f) = refl
-same_given (credit.BadSheet list place) = refl
-same_given (credit.Refused why) = refl
+same_given (Ok f) = refl
+same_given (Err (error.Unfit fault)) = refl
+same_given (Err (error.Refused why)) = refl
 
 pub no_line : (a : CreditAnswer) → fault_line (of_credit a) ≡ 0
-no_line (credit.Granted f) = refl
-no_line (credit.BadSheet list place) = refl
-no_line (credit.Refused why) = refl
+no_line (Ok f) = refl
+no_line (Err (error.Unfit fault)) = refl
+no_line (Err (error.Refused why)) = refl
 
 pub credit_job : CreditJob
 credit_job sheet text j s h e =

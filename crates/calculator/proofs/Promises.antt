@@ -1,5 +1,6 @@
 -- Rules, "The three demands", the first, proved of the definitions that the contracts cite.
 -- Assumes nothing.
+use Rattle.std.specs.Prelude.{Ok, Err}
 use Prim.Native.Nat.{ℕ}
 use mathlib.Core.Bool.{Bool, true, false}
 use mathlib.Core.List.{List}
@@ -12,8 +13,8 @@ use borrow.Author.Tests.{le-ltb}
 use Rattle.refusal.specs.declared.Refusal.TheVariants.{UnfitSheet}
 use Rattle.refusal.specs.Refusal.{granted}
 use Rattle.refusal.proofs.Numbers.{refusal_not_granted}
-use Rattle.answer.specs.declared.Outcome.{Outcome}
-use Rattle.answer.specs.declared.Outcome.TheVariants.{Granted, Refused, BadSheet}
+use Rattle.answer.specs.Outcomes.{Outcome}
+use Rattle.answer.specs.declared.Failure.TheVariants.{Refused, BadSheet}
 use Rattle.answer.specs.Outcomes.{given, fault_line}
 use Rattle.answer.specs.Lines.{answer_text}
 use Rattle.writing.specs.Writing.{pasted, written_of, buffer_of, written_given}
@@ -23,10 +24,10 @@ use Rattle.calculator.specs.Promises.{Zeros, EveryTextAnswered, UnreadIsRefused,
 answered : (o : Outcome)
     → (((given o).answer ≡ granted) × (fault_line o ≡ 0) × ((given o).list ≡ 0) × ((given o).place ≡ 0))
     ⊎ (((given o).answer ≡ granted → ⊥) × Zeros (given o))
-answered (Granted f) = inl (refl, refl, refl, refl)
-answered (Refused why line) =
+answered (Ok f) = inl (refl, refl, refl, refl)
+answered (Err (Refused why line)) =
     inr (refusal_not_granted why, record { load = refl; depth = refl; percent = refl; basis = refl; volume = refl; removed = refl })
-answered (BadSheet list place) =
+answered (Err (BadSheet list place)) =
     inr (refusal_not_granted UnfitSheet, record { load = refl; depth = refl; percent = refl; basis = refl; volume = refl; removed = refl })
 
 pub every_text_answered : EveryTextAnswered

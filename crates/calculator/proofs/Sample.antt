@@ -1,5 +1,6 @@
 -- The sample job, from its bytes to the bytes of its answer, by computation of the definitions.
 -- Assumes nothing.
+use Rattle.std.specs.Prelude.{Ok}
 use mathlib.Core.List.{flatten}
 use mathlib.Core.Path.{◌≡◌, refl, ◌∙◌, ap}
 use lib.ListN.{length}
@@ -19,15 +20,14 @@ use Rattle.job.specs.Areas.{sub_area_from, sub_area_of, added_line, areas_from}
 use Rattle.job.specs.Reading.{behind_head, reading_of}
 use Rattle.writing.specs.Lines.{line_with}
 use Rattle.answer.specs.Lines.{answer_text}
-use Rattle.answer.specs.declared.Outcome.TheVariants.{Granted}
 use Rattle.calculator.specs.Outcome.{of_load_job, by_tables, outcome_of}
 use Rattle.calculator.specs.Promises.{sample_job, sample_text, SampleAnswered, SampleLong}
 
-sample_outcome : outcome_of by_tables sample_job ≡ Granted (figures 1_568_350 0 0 None 0 0)
+sample_outcome : outcome_of by_tables sample_job ≡ Ok (figures 1_568_350 0 0 None 0 0)
 unfolding sum_of judged_from rises_to judged add_answer added_to added load_under part_of index_of joined pieces same_of place_from digits_from numeral_of value_of head_from head_of sub_area_from sub_area_of added_line areas_from behind_head reading_of of_load_job outcome_of
 sample_outcome = refl
 
-sample_text_lem : answer_text (Granted (figures 1_568_350 0 0 None 0 0)) ≡ sample_text
+sample_text_lem : answer_text (Ok (figures 1_568_350 0 0 None 0 0)) ≡ sample_text
 unfolding flatten joined pieces decimal_from decimal_of line_with answer_text
 sample_text_lem = refl
 

@@ -1,7 +1,7 @@
 -- Rules, "The three demands", of job texts: what is promised of every text, on the tables and on every lent sheet, through the
 -- numbers and values given back. Proved in proofs/Promises.antt and proofs/InTexts.antt.
 -- Assumes nothing.
-use Rattle.std.specs.Prelude.{ℕ, ◌≤◌, ◌<◌, List, ◌++◌, ◌⊎◌, ◌↔◌, ◌≡◌, length, drop}
+use Rattle.std.specs.Prelude.{ℕ, ◌≤◌, ◌<◌, List, ◌++◌, ◌⊎◌, ◌↔◌, ◌≡◌, length, drop, Ok, Err}
 use Rattle.laws.specs.Text.{bytes}
 use Rattle.refusal.specs.declared.Refusal.{Refusal}
 use Rattle.refusal.specs.declared.Refusal.TheVariants.{MalformedText, UnfitSubArea, TotalAreaPassed, UnfitSheet, AmountOutOfRange, SiteFull, NumberNotHeld, NumbersSpent}
@@ -10,7 +10,7 @@ use Rattle.site.specs.declared.Site.{Site}
 use Rattle.site.specs.Parts.{parts_of}
 use Rattle.loads.specs.Rates.{export_rates}
 use Rattle.loads.specs.Loads.{load_of}
-use Rattle.credit.specs.declared.CreditAnswer.TheVariants as credit
+use Rattle.curve.specs.declared.SheetError.TheVariants as error
 use Rattle.curve.specs.declared.Basis.TheVariants.{None}
 use Rattle.credit.specs.Credit.{figures}
 use Rattle.credit.specs.Answers.{Sheet, Given, given as credit_given}
@@ -18,7 +18,6 @@ use Rattle.credit.specs.Promises.{Credited, Sized}
 use Rattle.job.specs.declared.Job.{Job}
 use Rattle.job.specs.declared.Task.{Task}
 use Rattle.job.specs.declared.Task.TheVariants as task
-use Rattle.job.specs.declared.JobAnswer.TheVariants as job
 use Rattle.job.specs.Reading.{reading_of, given as reading_given}
 use Rattle.answer.specs.Outcomes.{given, fault_line}
 use Rattle.answer.specs.Lines.{answer_text}
@@ -34,7 +33,7 @@ FaultLine sheet text = fault_line (outcome_of sheet text)
 
 -- a text reads as a job on a site
 abbrev pub Reads : List ℕ → Job → Site → Type 0
-Reads text j s = reading_of text ≡ record { answer = job.Granted j; site = s }
+Reads text j s = reading_of text ≡ Ok (record { job = j; site = s })
 
 -- all result values but the place of the fault are zero, and there is no basis
 pub record Zeros (g : Given) : Type 0 where
@@ -60,7 +59,7 @@ EveryTextAnswered =
 abbrev pub UnreadIsRefused : Type 0
 UnreadIsRefused =
     (sheet : ℕ → Sheet) (text : List ℕ) (why : Refusal) (line : ℕ)
-    → (reading_of text).answer ≡ job.Refused why line
+    → reading_of text ≡ Err (record { why = why; line = line })
     → ((Answered sheet text).answer ≡ number_of why) × (FaultLine sheet text ≡ line)
 
 -- the refusals that arise in a line of the text: 1, 2, 3 and 14
@@ -79,7 +78,7 @@ RefusalFits =
     (sheet : ℕ → Sheet) (text : List ℕ)
     → ((number line : ℕ)
     → InALine number
-    → ((((Answered sheet text).answer ≡ number) × (FaultLine sheet text ≡ line)) ↔ (reading_given (reading_of text).answer ≡ (number, line))))
+    → ((((Answered sheet text).answer ≡ number) × (FaultLine sheet text ≡ line)) ↔ (reading_given (reading_of text) ≡ (number, line))))
     × ((j : Job) (s : Site) → Reads text j s → FaultLine sheet text ≡ 0)
     × (((Answered sheet text).answer ≡ number_of UnfitSheet → ⊥) → ((Answered sheet text).list ≡ 0) × ((Answered sheet text).place ≡ 0))
 
@@ -98,8 +97,8 @@ LoadJob =
     → j.task ≡ task.Load
     → (((Answered sheet text).answer ≡ granted) ↔ (j.amount ≡ 0))
     × (j.amount ≡ 0
-    → Answered sheet text ≡ credit_given (credit.Granted (figures (load_of (export_rates j.nutrient) (parts_of s)) 0 0 None 0 0)))
-    × ((j.amount ≡ 0 → ⊥) → Answered sheet text ≡ credit_given (credit.Refused AmountOutOfRange))
+    → Answered sheet text ≡ credit_given (Ok (figures (load_of (export_rates j.nutrient) (parts_of s)) 0 0 None 0 0)))
+    × ((j.amount ≡ 0 → ⊥) → Answered sheet text ≡ credit_given (Err (error.Refused AmountOutOfRange)))
 
 -- of a credit job: it gives what crediting its amount gives, on the sheet of its practice,
 abbrev pub CreditJob : Type 0

@@ -3,153 +3,91 @@
 #![tactic(auto)]
 
 ghost use Rattle.std.specs.Prelude.{◌≡◌};
-ghost use Rattle.credit.specs.Answers.{Sheet, answer_of};
+ghost use Rattle.credit.specs.Answers.{answer_of};
 ghost use Rattle.answer.specs.Lines.{answer_text};
 ghost use Rattle.writing.specs.Writing.{written_of, buffer_of};
-ghost use Rattle.calculator.specs.Outcome.{of_load, of_credit, of_load_job, of_task, by_tables, by_lent, outcome_of};
+ghost use Rattle.calculator.specs.Outcome.{of_credit, of_load_job, of_task, by_tables, by_lent, outcome_of};
+ghost use Rattle.calculator.specs.Inner.{sheet_for};
 
-use answer::Outcome;
-use credit::{CreditAnswer, Figures, Wanted};
+use answer::Failure;
+use credit::{Figures, Wanted};
 use curve::Basis;
-use job::{Job, JobAnswer, Task};
-use loads::LoadAnswer;
+use job::{Job, Reading, Task, Unread};
 use refusal::Refusal;
+use sheet::Sheet;
 use site::Site;
 use units::{Depth, Load, Percent, Volume};
-use writing::Written;
 
-// A load's outcome: the other numbers are 0, and there is no basis.
-fn of_load(found: LoadAnswer) -> Outcome
-    ensures { result ≡ of_load found }
-{
-    match found {
-        LoadAnswer::Granted(load) => Outcome::Granted(Figures {
-            load,
-            depth: Depth(0),
-            percent: Percent(0),
-            basis: Basis::None,
-            volume: Volume(0),
-            removed: Load(0),
-        }),
-        LoadAnswer::Refused(why) => Outcome::Refused { why, line: 0 },
-    }
-}
-
-fn of_credit(found: CreditAnswer) -> Outcome
-    ensures { result ≡ of_credit found }
-{
-    match found {
-        CreditAnswer::Granted(figures) => Outcome::Granted(figures),
-        CreditAnswer::BadSheet { list, place } => Outcome::BadSheet { list, place },
-        CreditAnswer::Refused(why) => Outcome::Refused { why, line: 0 },
-    }
-}
-
-// A load job tries 9 and 15 only.
-fn load_job(job: Job, site: Site) -> Outcome
+// A load job tries 9 and 15 only; the other numbers of a load are 0, and there is no basis.
+#[tactic(auto, using(crate::proofs::Finding::load_amount, crate::proofs::Finding::load_found))]
+fn load_job(job: Job, site: Site) -> Result<Figures, Failure>
     ensures { result ≡ of_load_job job site }
 {
     if job.amount != 0 {
-        return Outcome::Refused {
-            why: Refusal::AmountOutOfRange,
-            line: 0,
-        };
+        return Err(Refusal::AmountOutOfRange.into());
     }
-    let nutrient = job.nutrient;
-    of_load(loads::load(site, nutrient))
+    let load = loads::load(site, job.nutrient)?;
+    Ok(Figures {
+        load,
+        depth: Depth(0),
+        percent: Percent(0),
+        basis: Basis::None,
+        volume: Volume(0),
+        removed: Load(0),
+    })
 }
 
-fn by_tables(job: Job, site: Site, wanted: Wanted) -> Outcome
-    ensures { result ≡ of_credit (answer_of (Sheet.published job.practice) wanted job.nutrient site job.mode job.rate.0) }
+// A credit or a size, on the published sheet of the job's practice, or on one that is lent in its place.
+#[tactic(auto, using(crate::proofs::Finding::credit_refused, crate::proofs::Finding::credit_found, crate::proofs::Finding::on_published, crate::proofs::Finding::on_lent))]
+fn by_sheet(job: Job, site: Site, lent: Option<Sheet>, wanted: Wanted) -> Result<Figures, Failure>
+    ensures { result ≡ of_credit (answer_of (sheet_for lent.entry job.practice) wanted job.nutrient site job.mode job.rate.0) }
 {
-    let nutrient = job.nutrient;
-    let mode = job.mode;
-    let rate = job.rate;
-    of_credit(credit::answer(site, nutrient, job.practice, mode, rate, wanted))
-}
-
-fn by_lent(
-    job: Job,
-    site: Site,
-    depths: &[u64],
-    rates: &[u64],
-    percents: &[u64],
-    wanted: Wanted,
-) -> Outcome
-    ensures { result ≡ of_credit (answer_of (Sheet.lent depths.now rates.now percents.now) wanted job.nutrient site job.mode job.rate.0) }
-{
-    let nutrient = job.nutrient;
-    let mode = job.mode;
-    let rate = job.rate;
-    of_credit(credit::answer_on(site, nutrient, depths, rates, percents, mode, rate, wanted))
+    let figures = match lent {
+        Some(sheet) => credit::answer_on(site, job.nutrient, sheet, job.mode, job.rate, wanted)?,
+        None => credit::answer(site, job.nutrient, job.practice, job.mode, job.rate, wanted)?,
+    };
+    Ok(figures)
 }
 
 // The outcome of a job that reads.
-fn worked(job: Job, site: Site) -> Outcome
-    ensures { result ≡ of_task job.task (by_tables job.practice) job site }
+fn worked(job: Job, site: Site, lent: Option<Sheet>) -> Result<Figures, Failure>
+    ensures { result ≡ of_task job.task (sheet_for lent.entry job.practice) job site }
 {
-    let task = job.task;
-    match task {
+    match job.task {
         Task::Load => load_job(job, site),
-        Task::Credit => by_tables(job, site, Wanted::Credit(Volume(job.amount))),
-        Task::Size => by_tables(job, site, Wanted::Size(Percent(job.amount))),
+        Task::Credit => by_sheet(job, site, lent, Wanted::Credit(Volume(job.amount))),
+        Task::Size => by_sheet(job, site, lent, Wanted::Size(Percent(job.amount))),
     }
 }
 
-// The same on a lent sheet.
-fn worked_on(job: Job, site: Site, depths: &[u64], rates: &[u64], percents: &[u64]) -> Outcome
-    ensures { result ≡ of_task job.task (by_lent depths.now rates.now percents.now job.practice) job site }
+// The outcome of a job text, by the published tables, or with a lent sheet in the place of the tables. That a text does not read is no
+// From of Failure, since it and Unread are each of another crate.
+fn outcome_by(text: &[u8], lent: Option<Sheet>) -> Result<Figures, Failure>
+    ensures { result ≡ outcome_of (sheet_for lent.entry) text.now }
 {
-    let task = job.task;
-    match task {
-        Task::Load => load_job(job, site),
-        Task::Credit => by_lent(
-            job,
-            site,
-            depths,
-            rates,
-            percents,
-            Wanted::Credit(Volume(job.amount)),
-        ),
-        Task::Size => by_lent(
-            job,
-            site,
-            depths,
-            rates,
-            percents,
-            Wanted::Size(Percent(job.amount)),
-        ),
-    }
+    let Reading { job, site } = job::read(text).map_err(|Unread { why, line }| Failure::Refused {
+        why,
+        line,
+    })?;
+    worked(job, site, lent)
 }
 
 // The outcome of a job text, by the published tables.
-pub fn outcome(text: &[u8]) -> Outcome
+pub fn outcome(text: &[u8]) -> Result<Figures, Failure>
     ensures { result ≡ outcome_of by_tables text.now }
 {
-    let found = job::read(text);
-    let answer = found.answer;
-    let site = found.site;
-    match answer {
-        JobAnswer::Granted(job) => worked(job, site),
-        JobAnswer::Refused { why, line } => Outcome::Refused { why, line },
-    }
+    outcome_by(text, None)
 }
 
-// The outcome of a job text with a lent sheet in the place of the tables.
-pub fn outcome_on(text: &[u8], depths: &[u64], rates: &[u64], percents: &[u64]) -> Outcome
-    ensures { result ≡ outcome_of (by_lent depths.now rates.now percents.now) text.now }
+// The outcome of a job text with a lent sheet in the place of the tables: two calls, as C has them, each with a definition of its own.
+pub fn outcome_on(text: &[u8], sheet: Sheet) -> Result<Figures, Failure>
+    ensures { result ≡ outcome_of (by_lent sheet.entry.depths.now sheet.entry.rates.now sheet.entry.percents.now) text.now }
 {
-    let found = job::read(text);
-    let answer = found.answer;
-    let site = found.site;
-    match answer {
-        JobAnswer::Granted(job) => worked_on(job, site, depths, rates, percents),
-        JobAnswer::Refused { why, line } => Outcome::Refused { why, line },
-    }
+    outcome_by(text, Some(sheet))
 }
 
 // The answer text of a job text, into a lent buffer.
-pub fn answer(text: &[u8], buf: &mut [u8]) -> Written
+pub fn answer(text: &[u8], buf: &mut [u8]) -> Result<usize, Refusal>
     ensures value { result ≡ written_of buf.old (answer_text (outcome_of by_tables text.now)) }
     ensures buf_after { buf.new ≡ buffer_of buf.old (answer_text (outcome_of by_tables text.now)) }
 {
@@ -157,15 +95,9 @@ pub fn answer(text: &[u8], buf: &mut [u8]) -> Written
 }
 
 // The same with a lent sheet in the place of the tables.
-pub fn answer_on(
-    text: &[u8],
-    depths: &[u64],
-    rates: &[u64],
-    percents: &[u64],
-    buf: &mut [u8],
-) -> Written
-    ensures value { result ≡ written_of buf.old (answer_text (outcome_of (by_lent depths.now rates.now percents.now) text.now)) }
-    ensures buf_after { buf.new ≡ buffer_of buf.old (answer_text (outcome_of (by_lent depths.now rates.now percents.now) text.now)) }
+pub fn answer_on(text: &[u8], sheet: Sheet, buf: &mut [u8]) -> Result<usize, Refusal>
+    ensures value { result ≡ written_of buf.old (answer_text (outcome_of (by_lent sheet.entry.depths.now sheet.entry.rates.now sheet.entry.percents.now) text.now)) }
+    ensures buf_after { buf.new ≡ buffer_of buf.old (answer_text (outcome_of (by_lent sheet.entry.depths.now sheet.entry.rates.now sheet.entry.percents.now) text.now)) }
 {
-    answer::write(outcome_on(text, depths, rates, percents), buf)
+    answer::write(outcome_on(text, sheet), buf)
 }

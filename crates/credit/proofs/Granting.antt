@@ -1,5 +1,8 @@
 -- What is granted: exactly what is accepted, for an amount within its limits.
 -- Assumes nothing.
+use Rattle.std.specs.Prelude.{Result, Ok, Err}
+use Rattle.refusal.specs.declared.Refusal.{Refusal}
+use Rattle.units.specs.declared.Area.{Area}
 use Prim.Native.Nat.{ℕ}
 use mathlib.Core.Bool.{true}
 use mathlib.Core.List.{List, [], ◌∷◌}
@@ -10,8 +13,6 @@ use Rattle.refusal.specs.Refusal.{granted}
 use Rattle.units.specs.declared.Nutrient.{Nutrient}
 use Rattle.site.specs.declared.Site.{Site}
 use Rattle.site.specs.declared.SubArea.{SubArea}
-use Rattle.site.specs.declared.AreaAnswer.{AreaAnswer}
-use Rattle.site.specs.declared.AreaAnswer.TheVariants as area
 use Rattle.site.specs.Parts.{parts_of, total_area}
 use Rattle.site.specs.Judging.{judged, after_judging, given as area_given}
 use Rattle.site.proofs.Judging.{has_judged}
@@ -19,12 +20,12 @@ use Rattle.site.proofs.Promises.{fine_exactly}
 use Rattle.volume.specs.Volume.{volume_of}
 use Rattle.volume.proofs.Promises.{fits}
 use Rattle.curve.specs.declared.Mode.{Mode}
+use Rattle.curve.specs.Answers.{refused}
 use Rattle.curve.specs.Promises.{Usable}
 use Rattle.published.specs.Tables.{depths}
 use Rattle.published.specs.Published.{rates_of, percents_of, is_published}
-use Rattle.credit.specs.declared.CreditAnswer.{CreditAnswer}
-use Rattle.credit.specs.declared.CreditAnswer.TheVariants.{Refused}
 use Rattle.credit.specs.declared.Wanted.{Wanted}
+use Rattle.credit.specs.Credit.{CreditAnswer}
 use Rattle.credit.specs.Answers.{Sheet, lent, published, credit, size, on_sheet, on_parts, by_sheet, answer_of, given}
 use Rattle.credit.specs.Promises.{depths_in, rates_in, percents_in, percent_on, basis_on, is_there, Accepted, CreditGrantedExactly, SizeGrantedExactly}
 use Rattle.refusal.proofs.Numbers.{refusal_not_granted}
@@ -45,10 +46,10 @@ accepted : (sheet : Sheet) (wanted : Wanted) (n : Nutrient) (s : Site) (mode : M
 unfolding answer_of
 accepted sheet wanted n s mode r granting = told (judged s) refl granting
   where
-    told : (x : AreaAnswer) → judged s ≡ x
-        → (given (after_judging Refused (λ total. by_sheet volume_of sheet wanted n (parts_of s) mode r) x)).answer ≡ granted
+    told : (x : Result Area Refusal) → judged s ≡ x
+        → (given (after_judging refused (λ total. by_sheet volume_of sheet wanted n (parts_of s) mode r) x)).answer ≡ granted
         → Accepted sheet n s r
-    told (area.Granted total) j g =
+    told (Ok total) j g =
         let o : Open sheet n s mode r = granted_opens wanted granting in
         let f = (fine_exactly s total.0).0 (ap area_given j) in
         record {
@@ -60,7 +61,7 @@ accepted sheet wanted n s mode r granting = told (judged s) refl granting
           usable = o.accepted;
           impervious = o.within.some_impervious;
         }
-    told (area.Refused why) j g = absurd (refusal_not_granted why g)
+    told (Err why) j g = absurd (refusal_not_granted why g)
 
 -- Where a sheet is there and accepted, its percents decide.
 pub sheet_works : (sheet : Sheet) (wanted : Wanted) (n : Nutrient) (parts : List SubArea) (mode : Mode) (r : ℕ)

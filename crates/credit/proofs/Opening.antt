@@ -1,5 +1,7 @@
 -- Which tests a granted answer passed before it came to the work, and what the work then gives.
 -- Assumes nothing.
+use Rattle.std.specs.Prelude.{Result, Ok, Err}
+use Rattle.units.specs.declared.Area.{Area}
 use Prim.Native.Nat.{ℕ, ◌≤◌, ◌<◌}
 use mathlib.Core.Bool.{Bool}
 use mathlib.Core.List.{List, [], ◌∷◌}
@@ -14,34 +16,28 @@ use Rattle.units.specs.declared.Nutrient.{Nutrient}
 use Rattle.units.specs.Limits.{largest, most_percent, highest_depth}
 use Rattle.site.specs.declared.Site.{Site}
 use Rattle.site.specs.declared.SubArea.{SubArea}
-use Rattle.site.specs.declared.AreaAnswer.{AreaAnswer}
-use Rattle.site.specs.declared.AreaAnswer.TheVariants as area
 use Rattle.site.specs.Parts.{parts_of, impervious_area}
 use Rattle.site.specs.Judging.{judged, after_judging}
 use Rattle.loads.specs.Rates as rates
 use Rattle.loads.specs.Loads.{load_of}
 use Rattle.volume.specs.Volume.{volume_of, depth_of}
-use Rattle.sheet.specs.declared.Verdict.{Verdict}
-use Rattle.sheet.specs.declared.Verdict.TheVariants.{Fine, Unfit}
+use Rattle.sheet.specs.declared.Fault.{Fault}
 use Rattle.sheet.specs.Sheet.{verdict_of}
 use Rattle.sheet.proofs.Rules.{fine_rules, rules_fine}
 use Rattle.curve.specs.declared.Mode.{Mode}
 use Rattle.curve.specs.declared.Curves.{Curves}
 use Rattle.curve.specs.declared.Basis.{Basis}
-use Rattle.curve.specs.declared.Admission.TheVariants as admission
 use Rattle.curve.specs.Curve.{curves_of, percent_of, depth_reaching}
 use Rattle.curve.specs.Basis.{basis_of}
-use Rattle.curve.specs.Answers.{fastest_taken, rated, judged_first, admission_of}
+use Rattle.curve.specs.Answers.{fastest_taken, refused, rated, judged_first, admission_of}
 use Rattle.curve.specs.Promises as curve
 use Rattle.curve.proofs.Answering.{rate_taken, fine_rated}
 use Rattle.curve.proofs.Promises.{never_falls_with_depth}
 use Rattle.published.specs.Tables.{depths}
 use Rattle.published.specs.Published.{rates_of, percents_of, is_published}
-use Rattle.credit.specs.declared.CreditAnswer.{CreditAnswer}
-use Rattle.credit.specs.declared.CreditAnswer.TheVariants.{Granted, Refused}
 use Rattle.credit.specs.declared.Wanted.{Wanted}
 use Rattle.credit.specs.declared.Wanted.TheVariants.{Credit, Size}
-use Rattle.credit.specs.Credit.{figures_of}
+use Rattle.credit.specs.Credit.{CreditAnswer, figures_of}
 use Rattle.credit.specs.Answers.{Sheet, lent, published, credit, size, worked, on_sheet, on_parts, by_sheet, answer_of, given}
 use Rattle.credit.specs.Promises.{depths_in, rates_in, percents_in, percent_on, basis_on, Credited, Sized}
 use Rattle.refusal.proofs.Numbers.{refusal_not_granted}
@@ -56,7 +52,7 @@ module _ (ds rs ps : List ℕ) (mode : Mode) (r : ℕ) (onward : Curves → Cred
   rate_passed : (given (on_curves onward (rated rs mode r))).answer ≡ granted → (r ≤ fastest_taken rs) × (get_or rs 0 0 ≤ r)
   unfolding rated
   rate_passed g =
-      let e = curves_turn onward (admission.Admitted (curves_of rs mode r)) rate_tests in
+      let e = curves_turn onward (Ok (curves_of rs mode r)) rate_tests in
       let p = (granted_pass (onward (curves_of rs mode r)) rate_tests (rw e at g)).0 in
       (leb-true r (fastest_taken rs) p.0, leb-true (get_or rs 0 0) r p.1.0)
 
@@ -64,16 +60,16 @@ module _ (ds rs ps : List ℕ) (mode : Mode) (r : ℕ) (onward : Curves → Cred
   unfolding admission_of
   sheet_passed = told (verdict_of ds rs ps) refl
     where
-      told : (x : Verdict) → verdict_of ds rs ps ≡ x → (given (on_curves onward (judged_first x (rated rs mode r)))).answer ≡ granted
+      told : (x : Result (Unit {0}) Fault) → verdict_of ds rs ps ≡ x → (given (on_curves onward (judged_first x (rated rs mode r)))).answer ≡ granted
           → curve.Usable ds rs ps r
-      told Fine f g =
+      told (Ok _) f g =
           let p = rate_passed g in
           record { rules = fine_rules ds rs ps f; taken = p.0; slowest = p.1 }
-      told (Unfit list place) f g = absurd (refusal_not_granted UnfitSheet g)
+      told (Err fault) f g = absurd (refusal_not_granted UnfitSheet g)
 
 -- and is worked out by the curves of the site rate.
 pub sheet_admitted : (ds rs ps : List ℕ) (mode : Mode) (r : ℕ) → curve.Usable ds rs ps r
-    → admission_of ds rs ps mode r ≡ admission.Admitted (curves_of rs mode r)
+    → admission_of ds rs ps mode r ≡ Ok (curves_of rs mode r)
 sheet_admitted ds rs ps mode r p = sym (fine_rated ds rs ps refl mode r (rules_fine ds rs ps p.rules) (rate_taken rs mode refl p.taken p.slowest refl))
 
 -- what is wanted of sub-areas, by the percents of a sheet and their bases
@@ -117,17 +113,17 @@ module _ {sheet : Sheet} {n : Nutrient} {s : Site} {mode : Mode} {r : ℕ} where
   unfolding answer_of
   granted_opens wanted = told (judged s) refl
     where
-      told : (x : AreaAnswer) → judged s ≡ x
-          → (given (after_judging Refused (λ total. by_sheet volume_of sheet wanted n (parts_of s) mode r) x)).answer ≡ granted
+      told : (x : Result Area Refusal) → judged s ≡ x
+          → (given (after_judging refused (λ total. by_sheet volume_of sheet wanted n (parts_of s) mode r) x)).answer ≡ granted
           → Open sheet n s mode r
-      told (area.Granted total) j g =
+      told (Ok total) j g =
           let p = sheet_opens n (parts_of s) mode r sheet wanted g in
           record {
             accepted = p.0;
             within = work_within n (parts_of s) mode r wanted (percent_on sheet n mode r) (basis_on sheet n mode r) (rw (p.1 wanted) at g);
             works = λ other. rw j (p.1 other);
           }
-      told (area.Refused why) j g = absurd (refusal_not_granted why g)
+      told (Err why) j g = absurd (refusal_not_granted why g)
 
 module _ {sheet : Sheet} {n : Nutrient} {s : Site} {mode : Mode} {r : ℕ} (o : Open sheet n s mode r) where
   -- A credit is granted for a volume up to 10^13, and for no other.
@@ -136,7 +132,7 @@ module _ {sheet : Sheet} {n : Nutrient} {s : Site} {mode : Mode} {r : ℕ} (o : 
 
   pub credit_is : (v : ℕ) → v ≤ largest
       → answer_of sheet (credit v) n s mode r
-      ≡ Granted (figures_of (load_of (rates.export_rates n) (parts_of s)) (depth_of (parts_of s) v) (percent_on sheet n mode r (depth_of (parts_of s) v)) (basis_on sheet n mode r (depth_of (parts_of s) v)) v)
+      ≡ Ok (figures_of (load_of (rates.export_rates n) (parts_of s)) (depth_of (parts_of s) v) (percent_on sheet n mode r (depth_of (parts_of s) v)) (basis_on sheet n mode r (depth_of (parts_of s) v)) v)
   unfolding depth_of
   credit_is v h = o.works (credit v) ∙ credit_works _ _ _ (percent_on sheet n mode r) (basis_on sheet n mode r) v o.within h
 
@@ -153,10 +149,10 @@ module _ {sheet : Sheet} {n : Nutrient} {s : Site} {mode : Mode} {r : ℕ} (o : 
 
     pub size_is : target ≤ percent_on sheet n mode r highest_depth
         → answer_of sheet (size target) n s mode r
-        ≡ Granted (figures_of (load_of (rates.export_rates n) (parts_of s)) depth (percent_on sheet n mode r depth) (basis_on sheet n mode r depth) (volume_of (parts_of s) depth))
+        ≡ Ok (figures_of (load_of (rates.export_rates n) (parts_of s)) depth (percent_on sheet n mode r depth) (basis_on sheet n mode r depth) (volume_of (parts_of s) depth))
     size_is l = o.works (size target) ∙ size_works _ _ _ (percent_on sheet n mode r) (basis_on sheet n mode r) target o.within h l
 
-    pub size_unreachable : percent_on sheet n mode r highest_depth < target → answer_of sheet (size target) n s mode r ≡ Refused TargetUnreachable
+    pub size_unreachable : percent_on sheet n mode r highest_depth < target → answer_of sheet (size target) n s mode r ≡ refused TargetUnreachable
     size_unreachable l = o.works (size target) ∙ size_short _ _ _ (percent_on sheet n mode r) (basis_on sheet n mode r) target o.within h l
 
   -- On an accepted sheet the percent never falls with depth.

@@ -6,18 +6,18 @@ use mathlib.Core.List.{List, [], ◌∷◌}
 use mathlib.Core.Path.{◌≡◌, refl, ◌∙◌}
 use lib.Dec.{leb}
 use borrow.Author.Tests.{leb-true, le-leb, lt-leb, ltb-true, lt-ltb}
+use Rattle.std.specs.Prelude.{Ok}
 use Rattle.laws.specs.Turn.{in_turn}
 use Rattle.refusal.proofs.Numbers.{refusal_not_granted}
 use Rattle.refusal.specs.declared.Refusal.{Refusal}
-use Rattle.refusal.specs.declared.Refusal.TheVariants as refused
+use Rattle.refusal.specs.declared.Refusal.TheVariants.{TargetUnreachable}
 use Rattle.refusal.specs.Refusal.{granted}
 use Rattle.units.specs.Limits.{largest, most_percent, highest_depth}
-use Rattle.credit.specs.declared.CreditAnswer.{CreditAnswer}
-use Rattle.credit.specs.declared.CreditAnswer.TheVariants.{Granted, Refused}
 use Rattle.volume.specs.Volume.{depth_within}
 use Rattle.curve.specs.declared.Basis.{Basis}
 use Rattle.curve.specs.Curve.{depth_reaching}
-use Rattle.credit.specs.Credit.{figures_of, tried, credit_by, size_by}
+use Rattle.curve.specs.Answers.{refused}
+use Rattle.credit.specs.Credit.{CreditAnswer, figures_of, tried, credit_by, size_by}
 use Rattle.credit.specs.Answers.{given}
 
 -- each of the tests passes
@@ -26,7 +26,7 @@ Pass [] = Unit {0}
 Pass ((passes, why) ∷ tests) = (passes ≡ true) × Pass tests
 
 -- Tests in turn that end in a granted answer all pass, and what they go on to is granted.
-pub granted_pass : (a : CreditAnswer) (tests : List (Bool × Refusal)) → (given (in_turn Refused a tests)).answer ≡ granted
+pub granted_pass : (a : CreditAnswer) (tests : List (Bool × Refusal)) → (given (in_turn refused a tests)).answer ≡ granted
     → Pass tests × ((given a).answer ≡ granted)
 granted_pass a [] g = (tt, g)
 granted_pass a ((true, why) ∷ tests) g =
@@ -42,7 +42,7 @@ pub record Within (load impervious : ℕ) (volume_at : ℕ → ℕ) : Type 0 whe
 
 module _ (load impervious : ℕ) (volume_at percent_at : ℕ → ℕ) (basis_at : ℕ → Basis) where
   module _ (a : CreditAnswer) (amount : Bool) (rest : List (Bool × Refusal)) where
-    all_passed : (given (in_turn Refused a (tried load impervious volume_at amount rest))).answer ≡ granted → Within load impervious volume_at × (amount ≡ true) × Pass rest
+    all_passed : (given (in_turn refused a (tried load impervious volume_at amount rest))).answer ≡ granted → Within load impervious volume_at × (amount ≡ true) × Pass rest
     all_passed g =
         let p = (granted_pass a (tried load impervious volume_at amount rest) g).0 in (
           record {
@@ -54,7 +54,7 @@ module _ (load impervious : ℕ) (volume_at percent_at : ℕ → ℕ) (basis_at 
           p.1.1.1.1,
         )
 
-    rest_decides : Within load impervious volume_at → amount ≡ true → in_turn Refused a (tried load impervious volume_at amount rest) ≡ in_turn Refused a rest
+    rest_decides : Within load impervious volume_at → amount ≡ true → in_turn refused a (tried load impervious volume_at amount rest) ≡ in_turn refused a rest
     rest_decides w e =
         simp (
           lt-ltb 0 impervious w.some_impervious,
@@ -66,7 +66,7 @@ module _ (load impervious : ℕ) (volume_at percent_at : ℕ → ℕ) (basis_at 
   -- Crediting is granted where 8, 9 and 15 pass, and nowhere else.
   module _ (v : ℕ) where
     abbrev pub credited : CreditAnswer
-    credited = Granted (figures_of load (depth_within volume_at v) (percent_at (depth_within volume_at v)) (basis_at (depth_within volume_at v)) v)
+    credited = Ok (figures_of load (depth_within volume_at v) (percent_at (depth_within volume_at v)) (basis_at (depth_within volume_at v)) v)
 
     pub credit_passed : (given (credit_by load impervious volume_at percent_at basis_at v)).answer ≡ granted → Within load impervious volume_at × (v ≤ largest)
     unfolding credit_by
@@ -82,11 +82,11 @@ module _ (load impervious : ℕ) (volume_at percent_at : ℕ → ℕ) (basis_at 
   module _ (target : ℕ) where
     abbrev pub sized : CreditAnswer
     sized =
-        Granted
+        Ok
         (figures_of load (depth_reaching percent_at target) (percent_at (depth_reaching percent_at target)) (basis_at (depth_reaching percent_at target)) (volume_at (depth_reaching percent_at target)))
 
     abbrev pub reached : List (Bool × Refusal)
-    reached = (leb target (percent_at highest_depth), refused.TargetUnreachable) ∷ []
+    reached = (leb target (percent_at highest_depth), TargetUnreachable) ∷ []
 
     pub size_passed : (given (size_by load impervious volume_at percent_at basis_at target)).answer ≡ granted
         → Within load impervious volume_at × (target ≤ most_percent) × (target ≤ percent_at highest_depth)
@@ -102,7 +102,7 @@ module _ (load impervious : ℕ) (volume_at percent_at : ℕ → ℕ) (basis_at 
           rest_decides sized (leb target most_percent) reached w (le-leb target most_percent h)
           ∙ simp (le-leb target (percent_at highest_depth) l)
 
-      pub size_short : percent_at highest_depth < target → size_by load impervious volume_at percent_at basis_at target ≡ Refused refused.TargetUnreachable
+      pub size_short : percent_at highest_depth < target → size_by load impervious volume_at percent_at basis_at target ≡ refused TargetUnreachable
       unfolding size_by
       size_short l =
           rest_decides sized (leb target most_percent) reached w (le-leb target most_percent h)

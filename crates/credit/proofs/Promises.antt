@@ -1,6 +1,7 @@
 -- Rules, "The three demands": the promises of the second and the third, proved: a granted answer opens the way to its figures, and
 -- the laws of the two depths compare them.
 -- Assumes nothing.
+use Rattle.std.specs.Prelude.{Ok}
 use Prim.Native.Nat.{ℕ, ◌≤◌, ◌<◌}
 use mathlib.Core.Logic.{⊎_elim}
 use mathlib.Core.Path.{◌≡◌, refl, ◌∙◌, ap}
@@ -21,7 +22,6 @@ use Rattle.volume.proofs.Rising.{volume_rises}
 use Rattle.volume.proofs.Reaching.{depth_on_grid}
 use Rattle.curve.specs.declared.Mode.{Mode}
 use Rattle.curve.proofs.Promises.{never_falls_with_rate, finds_the_least}
-use Rattle.credit.specs.declared.CreditAnswer.TheVariants.{Granted}
 use Rattle.curve.specs.Curve.{depth_reaching}
 use Rattle.credit.specs.Credit.{figures_of}
 use Rattle.credit.specs.Answers.{Sheet, credit, size, answer_of, given, published}
@@ -74,7 +74,7 @@ module _ {sheet : Sheet} {n : Nutrient} {s : Site} {mode : Mode} {r : ℕ} (o : 
   -- with the percent of that depth.
   volume_is : (d : ℕ) → d ≤ highest_depth
       → answer_of sheet (credit (volume_of (parts_of s) d)) n s mode r
-      ≡ Granted (figures_of (load_of (rates.export_rates n) (parts_of s)) d (percent_on sheet n mode r d) (basis_on sheet n mode r d) (volume_of (parts_of s) d))
+      ≡ Ok (figures_of (load_of (rates.export_rates n) (parts_of s)) d (percent_on sheet n mode r d) (basis_on sheet n mode r d) (volume_of (parts_of s) d))
   volume_is d h =
       credit_is o (volume_of (parts_of s) d) (volume_within d h) ∙ rw (depth_back (parts_of s) d o.within.some_impervious h)
 

@@ -1,10 +1,11 @@
 -- Rules, "The numbers given back": credit and size judge the record before all else (14, 2, 3, 16), then try 4 or 5, 6, 7, 8, 9, 15 and 10.
 -- Assumes nothing.
-use Rattle.std.specs.Prelude.{ℕ, List, [], ◌∷◌}
+use Rattle.std.specs.Prelude.{ℕ, List, [], ◌∷◌, Ok, Err}
 use Rattle.laws.specs.Turn.{in_turn}
 use Rattle.refusal.specs.declared.Refusal.TheVariants.{NoPublishedSheet, UnfitSheet}
 use Rattle.refusal.specs.Refusal.{number_of, granted}
 use Rattle.units.specs.declared.Nutrient.{Nutrient}
+use Rattle.sheet.specs.Sheet.{part_number}
 use Rattle.site.specs.declared.SubArea.{SubArea}
 use Rattle.site.specs.declared.Site.{Site}
 use Rattle.site.specs.Parts.{parts_of, impervious_area}
@@ -17,14 +18,13 @@ use Rattle.curve.specs.declared.Basis.{Basis}
 use Rattle.curve.specs.declared.Basis.TheVariants.{None}
 use Rattle.curve.specs.Curve.{percent_at}
 use Rattle.curve.specs.Basis.{basis_at}
-use Rattle.curve.specs.Answers.{admission_of, after_admission}
+use Rattle.curve.specs.declared.SheetError.TheVariants.{Unfit, Refused}
+use Rattle.curve.specs.Answers.{refused, admission_of, after_admission}
 use Rattle.published.specs.Tables.{depths}
 use Rattle.published.specs.Published.{rates_of, percents_of, is_published}
-use Rattle.credit.specs.declared.CreditAnswer.{CreditAnswer}
-use Rattle.credit.specs.declared.CreditAnswer.TheVariants.{Granted, BadSheet, Refused}
 use Rattle.credit.specs.declared.Wanted.{Wanted}
 use Rattle.credit.specs.declared.Wanted.TheVariants.{Credit, Size}
-use Rattle.credit.specs.Credit.{credit_by, size_by}
+use Rattle.credit.specs.Credit.{CreditAnswer, credit_by, size_by}
 
 -- A sheet: one that is lent, by its depths, rates and percents, or the published one of a practice.
 pub data Sheet : Type 0 where
@@ -54,7 +54,7 @@ worked (Size target) load impervious volume_at percents bases = size_by load imp
 -- the same on a sheet of depths ds, rates rs and percents ps, after 5, 6 and 7
 unfoldable pub on_sheet : Wanted → ℕ → ℕ → (ℕ → ℕ) → List ℕ → List ℕ → List ℕ → Mode → ℕ → CreditAnswer
 on_sheet wanted load impervious volume_at ds rs ps mode r =
-    after_admission BadSheet Refused (λ c. worked wanted load impervious volume_at (percent_at ds ps c) (basis_at ds c)) (admission_of ds rs ps mode r)
+    after_admission (λ c. worked wanted load impervious volume_at (percent_at ds ps c) (basis_at ds c)) (admission_of ds rs ps mode r)
 
 -- the same for a list of sub-areas, with its own load and impervious area, and its V by a rule
 abbrev pub on_parts : VolumeRule → Wanted → Nutrient → List SubArea → List ℕ → List ℕ → List ℕ → Mode → ℕ → CreditAnswer
@@ -65,12 +65,12 @@ on_parts volume wanted n parts ds rs ps mode r =
 abbrev pub by_sheet : VolumeRule → Sheet → Wanted → Nutrient → List SubArea → Mode → ℕ → CreditAnswer
 by_sheet volume (lent ds rs ps) wanted n parts mode r = on_parts volume wanted n parts ds rs ps mode r
 by_sheet volume (published practice) wanted n parts mode r =
-    in_turn Refused (on_parts volume wanted n parts depths (rates_of practice n) (percents_of practice n) mode r)
+    in_turn refused (on_parts volume wanted n parts depths (rates_of practice n) (percents_of practice n) mode r)
     ((is_published practice n, NoPublishedSheet) ∷ [])
 
 -- the answer for a site, by a rule for V: its record is judged before all else
 abbrev pub answer_by : VolumeRule → Answering
-answer_by volume sheet wanted n s mode r = after_judging Refused (λ total. by_sheet volume sheet wanted n (parts_of s) mode r) (judged s)
+answer_by volume sheet wanted n s mode r = after_judging refused (λ total. by_sheet volume sheet wanted n (parts_of s) mode r) (judged s)
 
 -- the answer for a site, by V as the rules have it
 unfoldable pub answer_of : Answering
@@ -93,7 +93,7 @@ refused_with number list place =
     record { answer = number; list = list; place = place; load = 0; depth = 0; percent = 0; basis = None; volume = 0; removed = 0 }
 
 abbrev pub given : CreditAnswer → Given
-given (Granted f) =
+given (Ok f) =
     record {
       answer = granted;
       list = 0;
@@ -105,5 +105,5 @@ given (Granted f) =
       volume = f.volume.0;
       removed = f.removed.0;
     }
-given (BadSheet list place) = refused_with (number_of UnfitSheet) list place
-given (Refused why) = refused_with (number_of why) 0 0
+given (Err (Unfit fault)) = refused_with (number_of UnfitSheet) (part_number fault.part) fault.place
+given (Err (Refused why)) = refused_with (number_of why) 0 0

@@ -1,34 +1,23 @@
 -- What only private functions ask of one another: nobody need read it to believe the promises.
 -- Assumes nothing.
-use Rattle.std.specs.Prelude.{ℕ, ◌≤◌, Bool, List, [], ◌∷◌, leb}
+use Rattle.std.specs.Prelude.{ℕ, ◌≤◌, ◌≡◌, Bool, true, false, List, [], ◌∷◌, leb, Result, Ok, Err, Option, Some, None}
 use Rattle.laws.specs.Turn.{in_turn}
 use Rattle.refusal.specs.declared.Refusal.{Refusal}
-use Rattle.refusal.specs.declared.Refusal.TheVariants.{NoPublishedSheet, TargetUnreachable}
+use Rattle.refusal.specs.declared.Refusal.TheVariants.{TargetUnreachable}
 use Rattle.units.specs.declared.Area.{Area}
 use Rattle.units.specs.declared.Depth.{Depth}
-use Rattle.units.specs.declared.DepthAnswer.{DepthAnswer}
-use Rattle.units.specs.declared.DepthAnswer.TheVariants as depth
-use Rattle.units.specs.declared.Nutrient.{Nutrient}
-use Rattle.units.specs.Limits.{largest, most_percent, lowest_depth}
-use Rattle.site.specs.declared.SubArea.{SubArea}
+use Rattle.units.specs.declared.Percent.{Percent}
+use Rattle.units.specs.Limits.{largest, most_percent, lowest_depth, highest_depth}
 use Rattle.site.specs.declared.Site.{Site}
-use Rattle.site.specs.declared.AreaAnswer.{AreaAnswer}
-use Rattle.site.specs.declared.AreaAnswer.TheVariants as area
 use Rattle.site.specs.Parts.{parts_of}
 use Rattle.site.specs.Judging.{judged}
 use Rattle.loads.specs.Loads.{load_of}
-use Rattle.volume.specs.Areas.{area_at, no_areas, areas_of, volume_from}
+use Rattle.volume.specs.Areas.{areas_of}
 use Rattle.volume.specs.Inner.{Six}
-use Rattle.curve.specs.declared.Mode.{Mode}
 use Rattle.curve.specs.declared.Basis.{Basis}
-use Rattle.published.specs.Tables.{depths}
-use Rattle.published.specs.Published.{rates_of, percents_of, is_published}
-use Rattle.credit.specs.declared.CreditAnswer.{CreditAnswer}
-use Rattle.credit.specs.declared.CreditAnswer.TheVariants.{Granted, Refused}
-use Rattle.credit.specs.declared.Survey.{Survey}
-use Rattle.credit.specs.declared.Wanted.{Wanted}
-use Rattle.credit.specs.Credit.{figures_of, tried}
-use Rattle.credit.specs.Answers.{on_sheet}
+use Rattle.curve.specs.declared.Basis.TheVariants as basis
+use Rattle.curve.specs.Answers.{refused}
+use Rattle.credit.specs.Credit.{CreditAnswer, figures_of, tried}
 
 -- the six areas of a site, with a load and a percent within their limits
 pub record Work (xs : List Area) (load percent : ℕ) : Type 0 where
@@ -37,32 +26,29 @@ pub record Work (xs : List Area) (load percent : ℕ) : Type 0 where
   pub whole : percent ≤ most_percent
 
 -- the depth of an answer, 0 where it is refused
-abbrev pub depth_in : DepthAnswer → Depth
-depth_in (depth.Granted d) = d
-depth_in (depth.Refused why) = record { 0 = lowest_depth }
+abbrev pub depth_in : Result Depth Refusal → Depth
+depth_in (Ok d) = d
+depth_in (Err why) = record { 0 = lowest_depth }
 
 -- a sizing at a depth that was found, with its percent and basis, or at any where the target is not reached
 unfoldable pub sized_at : ℕ → ℕ → (ℕ → ℕ) → ℕ → ℕ → ℕ → Basis → Bool → CreditAnswer
 sized_at load impervious volume_at target depth percent basis reached =
-    in_turn Refused (Granted (figures_of load depth percent basis (volume_at depth)))
+    in_turn refused (Ok (figures_of load depth percent basis (volume_at depth)))
     (tried load impervious volume_at (leb target most_percent) ((reached, TargetUnreachable) ∷ []))
 
--- the work on the published sheet of a practice: one that has none is refused 4
-abbrev pub on_practice : Wanted → ℕ → List Area → ℕ → Nutrient → Mode → ℕ → CreditAnswer
-on_practice wanted load xs practice n mode r =
-    in_turn Refused
-    (on_sheet wanted load (area_at xs 0) (volume_from xs) depths (rates_of practice n) (percents_of practice n) mode r)
-    ((is_published practice n, NoPublishedSheet) ∷ [])
+-- a sizing at the depth that was found, or at none
+abbrev pub sized_by : ℕ → ℕ → (ℕ → ℕ) → ℕ → Option (Depth × Percent × Basis) → CreditAnswer
+sized_by load impervious volume_at target (Some (d, p, b)) = sized_at load impervious volume_at target d.0 p.0 b true
+sized_by load impervious volume_at target None = sized_at load impervious volume_at target highest_depth 0 basis.None false
 
--- a refused record has no areas and no load
-abbrev pub unsurveyed : Refusal → Survey
-unsurveyed why = record { answer = area.Refused why; areas = record { of = no_areas }; load = record { 0 = 0 } }
+-- a depth that was found is on the grid, and its percent is at most 100 percent
+abbrev pub Within : Option (Depth × Percent × Basis) → Type 0
+Within (Some (d, p, b)) = (d.0 ≤ highest_depth) × (p.0 ≤ most_percent)
+Within None = Unit {0}
 
--- what a walk over sub-areas finds under a table of rates, by the judging of their record: the total area, the six areas and the load
-abbrev pub surveyed_by : List ℕ → List SubArea → AreaAnswer → Survey
-surveyed_by rates ps (area.Granted total) =
-    record { answer = area.Granted total; areas = record { of = areas_of ps }; load = record { 0 = load_of rates ps } }
-surveyed_by rates ps (area.Refused why) = unsurveyed why
-
-unfoldable pub surveyed : List ℕ → Site → Survey
-surveyed rates s = surveyed_by rates (parts_of s) (judged s)
+-- what a walk over a record that is judged fine finds under a table of rates: the six areas and the load of its sub-areas
+pub record Surveyed (rates : List ℕ) (s : Site) (xs : List Area) (load : ℕ) : Type 0 where
+  pub total : Area
+  pub fine : Ok total ≡ judged s
+  pub areas : xs ≡ areas_of (parts_of s)
+  pub loaded : load ≡ load_of rates (parts_of s)

@@ -1,24 +1,16 @@
 -- Laws of the basis: what each test makes of it, and what each basis tells of the tests.
 -- Assumes nothing.
 use Prim.Native.Nat.{ℕ, ◌-◌, ◌≤◌, ◌<◌}
-use mathlib.Core.Bool.{Bool, true, false, cond, ◌&&◌, not}
+use mathlib.Core.Bool.{Bool, false, cond, ◌&&◌, not}
 use mathlib.Core.List.{List}
 use mathlib.Core.Path.{◌≡◌, sym, ◌∙◌}
-use lib.Dec.{ltb}
 use lib.ListN.{length, get_or}
-use borrow.Author.Tests.{lt-ltb, le-ltb, eq-eqb, ne_eqb}
-use Rattle.laws.proofs.And.{and_false}
-use Rattle.units.specs.declared.Rate.{Rate}
+use borrow.Author.Tests.{lt-ltb, le-ltb, eq-eqb}
 use Rattle.curve.specs.declared.Curves.{Curves}
-use Rattle.curve.specs.declared.Curves.TheVariants.{Two}
 use Rattle.curve.specs.declared.Basis.TheVariants.{Printed, Between, Start, Held}
 use Rattle.curve.specs.Curve.{segment}
 use Rattle.curve.specs.Basis.{mixes, is_printed, basis_at}
 use Rattle.curve.proofs.Segments.{segment_in}
-
--- A match on the curves.
-pub mixes_two : {c : Curves} {j : ℕ} {slow fast r : Rate} → c ≡ Two j slow fast r → ltb slow.0 r.0 ≡ mixes c
-mixes_two e = rw e
 
 -- Which basis it is, by the tests in their order.
 module _ (ds : List ℕ) (c : Curves) (d : ℕ) where
@@ -37,15 +29,9 @@ module _ (ds : List ℕ) (c : Curves) (d : ℕ) where
       within = simp (le-ltb d (get_or ds 0 0) from, le-ltb (get_or ds (length ds - 1) 0) d to)
 
       module _ {mixed : Bool} (told : mixed ≡ mixes c) where
-        pub basis_mixed : mixed ≡ true → Between ≡ basis_at ds c d
-        basis_mixed e = sym (within ∙ rw (sym told ∙ e, and_false (is_printed ds d)))
-
         module _ (alone : mixed ≡ false) {k : ℕ} (at : k ≡ segment ds d) where
           pub basis_printed : get_or ds k 0 ≡ d → Printed ≡ basis_at ds c d
           basis_printed e = sym (within ∙ simp (eq-eqb (get_or ds (segment ds d) 0) d (rw at at e), sym told ∙ alone))
-
-          pub basis_between : (get_or ds k 0 ≡ d → ⊥) → Between ≡ basis_at ds c d
-          basis_between e = sym (within ∙ simp (ne_eqb (get_or ds (segment ds d) 0) d (rw at at e)))
 
 -- A depth up to the last has its place in the sheet.
 pub basis_place : (ds : List ℕ) (d : ℕ) {k : ℕ} → 1 ≤ length ds → d ≤ get_or ds (length ds - 1) 0 → k ≡ segment ds d → k < length ds

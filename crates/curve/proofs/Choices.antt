@@ -112,17 +112,9 @@ module _ {ds rs ps : List ℕ} (s : Rules ds rs ps) (k : ℕ) (h : k + 1 < lengt
 
 -- What the two modes take.
 module _ (rs : List ℕ) (mode : Mode) (r : ℕ) {low : ℕ} (is : low ≡ fastest rs r) where
-  pub step_one : mode ≡ Step → One low ≡ curves_of rs mode r
-  unfolding curves_of
-  step_one e = rw (e, is)
-
   pub mix_two : mode ≡ Mix → low + 1 < length rs → Two low (record { 0 = get_or rs low 0 }) (record { 0 = get_or rs (low + 1) 0 }) (record { 0 = r }) ≡ curves_of rs mode r
   unfolding curves_of
   mix_two e h = rw (e, is) (simp (lt-ltb (fastest rs r + 1) (length rs) (rw is at h)))
-
-  pub mix_last : mode ≡ Mix → length rs ≤ low + 1 → One low ≡ curves_of rs mode r
-  unfolding curves_of
-  mix_last e h = rw (e, is) (simp (le-ltb (fastest rs r + 1) (length rs) (rw is at h)))
 
 -- The next place fits a list's length.
 pub next_fits : (rs : List ℕ) (r : ℕ) {low : ℕ} → low ≡ fastest rs r → Rated rs r → low + 1 ≤ length rs

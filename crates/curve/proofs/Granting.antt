@@ -6,8 +6,8 @@ use mathlib.Core.List.{List, [], ◌∷◌}
 use mathlib.Core.Logic.{⊎_elim}
 use mathlib.Core.Path.{◌≡◌, refl, sym, ap}
 use native.Mathlib.Nat.{le_trans}
-use native.Mathlib.Omega.{arith}
 use lib.Dec.{leb}
+use Rattle.std.specs.Prelude.{Result, Ok, Err}
 use lib.ListN.{get_or}
 use borrow.Author.Tests.{leb-true, le-leb, lt-leb}
 use Rattle.laws.specs.Turn.{in_turn}
@@ -16,44 +16,46 @@ use Rattle.refusal.specs.declared.Refusal.TheVariants.{UnfitSheet, RateOutOfRang
 use Rattle.refusal.specs.Refusal.{granted}
 use Rattle.refusal.proofs.Numbers.{refusal_not_granted}
 use Rattle.units.specs.Limits.{most_percent, highest_depth}
-use Rattle.sheet.specs.declared.Verdict.{Verdict}
-use Rattle.sheet.specs.declared.Verdict.TheVariants.{Fine, Unfit}
+use Rattle.sheet.specs.declared.Fault.{Fault}
 use Rattle.sheet.specs.Sheet.{verdict_of}
 use Rattle.sheet.proofs.Rules.{fine_rules, rules_fine}
 use Rattle.curve.specs.declared.Mode.{Mode}
 use Rattle.curve.specs.declared.Curves.{Curves}
-use Rattle.curve.specs.declared.Admission.{Admission}
-use Rattle.curve.specs.declared.Admission.TheVariants as admission
-use Rattle.curve.specs.declared.PercentAnswer.TheVariants as percent
+use Rattle.curve.specs.declared.SheetError.TheVariants.{Unfit, Refused}
 use Rattle.curve.specs.declared.Reached.TheVariants as reach
 use Rattle.curve.specs.Curve.{curves_of, percent_at, percent_of, depth_reaching}
 use Rattle.curve.specs.Basis.{basis_at}
-use Rattle.curve.specs.Answers.{fastest_taken, rated, judged_first, admission_of, after_admission, percent_answer, least_found, reach_of, given, reach_given}
+use Rattle.curve.specs.Answers.{fastest_taken, Admission, refused, rated, judged_first, admission_of, after_admission, percent_answer, least_found, reach_of, given, reach_given}
+use Rattle.curve.specs.Inner.{Ready}
 use Rattle.curve.specs.Promises.{Usable, PercentsGiven, PercentGrantedExactly, DepthsGiven, ReachGrantedExactly}
 use Rattle.curve.proofs.Answering.{chosen}
-use Rattle.curve.proofs.Promises.{at_most_all, finds_the_least}
+use Rattle.curve.proofs.Promises.{granted_ready, at_most_all, finds_the_least}
 
 -- A granted sheet and rate are admitted with the curves of the rate,
-pub granted_admitted : {ds rs ps : List ℕ} {r : ℕ} (mode : Mode) → Usable ds rs ps r → admission_of ds rs ps mode r ≡ admission.Admitted (curves_of rs mode r)
+pub granted_admitted : {ds rs ps : List ℕ} {r : ℕ} (mode : Mode) → Usable ds rs ps r → admission_of ds rs ps mode r ≡ Ok (curves_of rs mode r)
 unfolding admission_of rated
 granted_admitted {ds} {rs} {ps} {r} mode g =
     rw (rules_fine ds rs ps g.rules) (simp (le-leb r (fastest_taken rs) g.taken, le-leb (get_or rs 0 0) r g.slowest))
 
 -- and nothing else is.
-judged_granted : (v : Verdict) {ds rs ps : List ℕ} (mode : Mode) (r : ℕ) {c : Curves} → verdict_of ds rs ps ≡ v
-    → judged_first v (rated rs mode r) ≡ admission.Admitted c → Usable ds rs ps r × (c ≡ curves_of rs mode r)
+judged_granted : (v : Result (Unit {0}) Fault) {ds rs ps : List ℕ} (mode : Mode) (r : ℕ) {c : Curves} → verdict_of ds rs ps ≡ v
+    → judged_first v (rated rs mode r) ≡ Ok c → Usable ds rs ps r × (c ≡ curves_of rs mode r)
 unfolding rated
-judged_granted Fine {ds} {rs} {ps} mode r {c} f e =
+judged_granted (Ok _) {ds} {rs} {ps} mode r {c} f e =
     let t = chosen (leb r (fastest_taken rs)) (leb (get_or rs 0 0) r) (curves_of rs mode r) c RateBelowSheet RateOutOfRange e in
     (record { rules = fine_rules ds rs ps f; taken = leb-true r (fastest_taken rs) t.0; slowest = leb-true (get_or rs 0 0) r t.1 }, sym t.2)
-judged_granted (Unfit list place) mode r f e =
-    let z : ◌≡◌ {A = ℕ} 0 1 = cc in
-    absurd (omega arith)
+judged_granted (Err fault) mode r f e = cc
 
-pub admitted_granted : (ds rs ps : List ℕ) (mode : Mode) (r : ℕ) {c : Curves} → admission_of ds rs ps mode r ≡ admission.Admitted c
+pub admitted_granted : (ds rs ps : List ℕ) (mode : Mode) (r : ℕ) {c : Curves} → admission_of ds rs ps mode r ≡ Ok c
     → Usable ds rs ps r × (c ≡ curves_of rs mode r)
 unfolding admission_of
 admitted_granted ds rs ps mode r e = judged_granted (verdict_of ds rs ps) mode r refl e
+
+-- They are ready for every depth.
+pub admitted_ready : (ds rs ps : List ℕ) (mode : Mode) (r : ℕ) {c : Curves} → admission_of ds rs ps mode r ≡ Ok c → Ready ds rs ps c
+admitted_ready ds rs ps mode r e =
+    let u = admitted_granted ds rs ps mode r e in
+    rw u.1 (granted_ready u.0 mode)
 
 -- Up to depth 200 the percent is given back, and 9 beyond.
 pub percents_given : PercentsGiven
@@ -67,17 +69,17 @@ percents_given ds rs ps mode r d g =
 -- Nothing else is granted a percent.
 granted_usable : (a : Admission) (ds rs ps : List ℕ) (mode : Mode) (r d : ℕ) → admission_of ds rs ps mode r ≡ a
     → (given
-    (after_admission percent.BadSheet percent.Refused
-    (λ c. in_turn percent.Refused (percent.Granted (record { 0 = percent_at ds ps c d }) (basis_at ds c d)) ((leb d highest_depth, AmountOutOfRange) ∷ [])) a)).0
+    (after_admission
+    (λ c. in_turn refused (Ok (record { 0 = percent_at ds ps c d }, basis_at ds c d)) ((leb d highest_depth, AmountOutOfRange) ∷ [])) a)).0
     ≡ granted
     → Usable ds rs ps r × (d ≤ highest_depth)
-granted_usable (admission.Admitted c) ds rs ps mode r d t e =
+granted_usable (Ok c) ds rs ps mode r d t e =
     ⊎_elim
     (λ (h : leb d highest_depth ≡ true). ((admitted_granted ds rs ps mode r t).0, leb-true d highest_depth h))
     (λ (h : leb d highest_depth ≡ false). absurd (refusal_not_granted AmountOutOfRange (simp h at e)))
     (passes_or_fails (leb d highest_depth))
-granted_usable (admission.BadSheet list place) ds rs ps mode r d t e = absurd (refusal_not_granted UnfitSheet e)
-granted_usable (admission.Refused why) ds rs ps mode r d t e = absurd (refusal_not_granted why e)
+granted_usable (Err (Unfit fault)) ds rs ps mode r d t e = absurd (refusal_not_granted UnfitSheet e)
+granted_usable (Err (Refused why)) ds rs ps mode r d t e = absurd (refusal_not_granted why e)
 
 pub percent_granted_exactly : PercentGrantedExactly
 unfolding percent_answer
@@ -105,12 +107,12 @@ depths_given ds rs ps mode r t g =
 -- Nothing else is granted a depth.
 reach_usable : (a : Admission) (ds rs ps : List ℕ) (mode : Mode) (r t : ℕ) → admission_of ds rs ps mode r ≡ a
     → (reach_given
-    (after_admission reach.BadSheet reach.Refused
-    (λ c. in_turn (λ why. why) (least_found (percent_at ds ps c) (basis_at ds c) t)
-    ((leb t most_percent, reach.TooHigh) ∷ (leb t (percent_at ds ps c highest_depth), reach.Short) ∷ [])) a)).0
+    (after_admission
+    (λ c. Ok (in_turn (λ why. why) (least_found (percent_at ds ps c) (basis_at ds c) t)
+    ((leb t most_percent, reach.TooHigh) ∷ (leb t (percent_at ds ps c highest_depth), reach.Short) ∷ []))) a)).0
     ≡ granted
     → Usable ds rs ps r × (t ≤ percent_of ds rs ps mode r highest_depth)
-reach_usable (admission.Admitted c) ds rs ps mode r t f e =
+reach_usable (Ok c) ds rs ps mode r t f e =
     let u = admitted_granted ds rs ps mode r f in
     ⊎_elim
     (λ (h : leb t most_percent ≡ true).
@@ -120,8 +122,8 @@ reach_usable (admission.Admitted c) ds rs ps mode r t f e =
     (passes_or_fails (leb t (percent_at ds ps c highest_depth))))
     (λ (h : leb t most_percent ≡ false). absurd (refusal_not_granted AmountOutOfRange (simp h at e)))
     (passes_or_fails (leb t most_percent))
-reach_usable (admission.BadSheet list place) ds rs ps mode r t f e = absurd (refusal_not_granted UnfitSheet e)
-reach_usable (admission.Refused why) ds rs ps mode r t f e = absurd (refusal_not_granted why e)
+reach_usable (Err (Unfit fault)) ds rs ps mode r t f e = absurd (refusal_not_granted UnfitSheet e)
+reach_usable (Err (Refused why)) ds rs ps mode r t f e = absurd (refusal_not_granted why e)
 
 pub reach_granted_exactly : ReachGrantedExactly
 unfolding reach_of

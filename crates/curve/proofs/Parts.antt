@@ -6,15 +6,10 @@ use mathlib.Core.Path.{◌≡◌}
 use native.Mathlib.Nat.{mul-le-mul}
 use native.Mathlib.Omega.{arith}
 use lib.ListN.{length, get_or}
-use Rattle.laws.specs.Line.{line}
-use Rattle.units.specs.declared.Rate.{Rate}
 use Rattle.units.specs.Limits.{most_rate, highest_depth}
 use Rattle.sheet.specs.Sheet.{previous}
 use Rattle.sheet.specs.Rules.{Rules}
-use Rattle.curve.specs.declared.Curves.{Curves}
-use Rattle.curve.specs.declared.Curves.TheVariants.{One, Two}
-use Rattle.curve.specs.declared.Fraction.{Fraction}
-use Rattle.curve.specs.Curve.{held, segment, width, height, exact_in, exact_at}
+use Rattle.curve.specs.Curve.{held, segment, width, height}
 use Rattle.curve.specs.Inner.{OnLine, InSegment, Between}
 use Rattle.curve.proofs.Segments.{held_last, segment_in, segment_from, segment_to}
 use Rattle.curve.proofs.Heights.{width_most, point_fits, height_most}
@@ -35,11 +30,6 @@ pub line_fits : {ds rs ps : List ℕ} (j : ℕ) {k x x₀ y₀ : ℕ} → InSegm
     → y₀ ≡ previous ps (length ds) (j * length ds + k) → OnLine x₀ y₀ (get_or ds k 0) (get_or ps (j * length ds + k) 0) x
 line_fits j s h e f = rw (e, f) (point_fits s h)
 
-pub height_is : (ds ps : List ℕ) (j k x : ℕ) {x₀ y₀ r : ℕ} → x₀ ≡ previous ds (length ds) k → y₀ ≡ previous ps (length ds) (j * length ds + k)
-    → r ≡ line x₀ y₀ (get_or ds k 0) (get_or ps (j * length ds + k) 0) x → r ≡ height ds ps j k x
-unfolding height
-height_is ds ps j k x e f g = rw (e, f) at g
-
 pub mix_fits : {ds rs ps : List ℕ} {j k x slow fast r a b : ℕ} → InSegment ds rs ps k x → Between rs j slow fast r → a ≡ height ds ps j k x
     → b ≡ height ds ps (j + 1) k x → OnLine slow a fast b r
 mix_fits {ds} {rs} {ps} {j} {k} {x} s n e f =
@@ -54,18 +44,3 @@ under_fits {slow = slow} {fast = fast} {w = w} s n e =
     let i : fast - slow ≤ most_rate = omega arith in
     let v : w ≤ highest_depth = rw e (width_most s.rules s.within) in
     mul-le-mul v i
-
-pub one_is : (ds ps : List ℕ) (j k x : ℕ) {a w : ℕ} → a ≡ height ds ps j k x → w ≡ width ds k
-    → ◌≡◌ {A = Fraction} (record { over = a; under = w }) (exact_in ds ps (One j) k x)
-unfolding exact_in
-one_is ds ps j k x e f = rw (e, f)
-
-pub two_is : (ds ps : List ℕ) (j k x : ℕ) (slow fast r : Rate) {a b o w : ℕ} → a ≡ height ds ps j k x → b ≡ height ds ps (j + 1) k x
-    → o ≡ line slow.0 a fast.0 b r.0 → w ≡ width ds k
-    → ◌≡◌ {A = Fraction} (record { over = o; under = w * (fast.0 - slow.0) }) (exact_in ds ps (Two j slow fast r) k x)
-unfolding exact_in
-two_is ds ps j k x slow fast r e f g h = rw (g, e, f, h)
-
-pub exact_is : (ds ps : List ℕ) (d : ℕ) {x k : ℕ} {c c' : Curves} {r : Fraction} → c ≡ c' → x ≡ held ds d → k ≡ segment ds x
-    → r ≡ exact_in ds ps c' k x → r ≡ exact_at ds ps c d
-exact_is ds ps d e f g h = rw e (rw (g, f) at h)

@@ -1,15 +1,19 @@
 -- Laws of the segment in which a depth lies.
 -- Assumes nothing.
-use Prim.Native.Nat.{ℕ, zero, suc, ◌-◌, ◌≤◌, ◌<◌}
-use mathlib.Core.List.{List}
+use Prim.Native.Nat.{ℕ, zero, suc, ◌+◌, ◌-◌, ◌≤◌, ◌<◌}
+use mathlib.Core.Bool.{Bool, true, false}
+use mathlib.Core.List.{List, [], ◌∷◌}
+use mathlib.Core.Path.{◌≡◌, ◌∙◌}
 use mathlib.Core.Logic.{⊎_elim}
-use native.Mathlib.Nat.{le_antisymm, le_trans, min-le_left, min-le_right, le-min}
+use native.Mathlib.Nat.{add-zero, zero-add, le_antisymm, le_trans, min-le_left, min-le_right, le-min}
 use native.Mathlib.Omega.{arith}
 use lib.Dec.{ltb}
 use lib.ListN.{length, get_or}
 use borrow.Author.Tests.{ltb-true, ltb-false, lt-ltb}
+use Rattle.std.specs.List.{prefix_len}
+use Rattle.laws.specs.First.{first_from}
 use Rattle.laws.proofs.First.{first_le, first_before, first_fails, first_all, first_mono}
-use Rattle.laws.proofs.Order.{lt_or_le}
+use Rattle.laws.proofs.Order.{lt_or_le, passes_or_fails}
 use Rattle.sheet.specs.Sheet.{previous}
 use Rattle.sheet.proofs.Rows.{one_start, one_next}
 use Rattle.curve.specs.Curve.{held, segment}
@@ -54,3 +58,20 @@ module _ (ds : List ℕ) (some : 1 ≤ length ds) (x : ℕ) (h : x ≤ get_or ds
   segment_from =
       before_below ds (length ds) (segment ds x) x segment_in
       (λ i l. ltb-true (get_or ds i 0) x (first_before (λ k. ltb (get_or ds k 0) x) (length ds) i l))
+
+-- The numbers before the first that is not below x are as many as are below x from the front on.
+prefix_from : (p : ℕ → Bool) (xs : List ℕ) (test : ℕ → Bool) (a : ℕ) → ((k : ℕ) → k < length xs → test (a + k) ≡ p (get_or xs k 0))
+    → a + prefix_len p xs ≡ first_from test a (length xs)
+unfolding first_from
+prefix_from p [] test a h = add-zero a
+prefix_from p (y ∷ xs) test a h =
+    let e : test a ≡ p y = simp add-zero at (h 0 (omega arith)) in
+    ⊎_elim
+    (λ (t : p y ≡ true).
+    let r = prefix_from p xs test (suc a) (λ k l. let z : a + suc k ≡ suc a + k = omega arith in rw z at (h (suc k) (omega arith))) in
+    simp (e ∙ t, t) (omega (arith, r)))
+    (λ (f : p y ≡ false). simp (e ∙ f, f, add-zero))
+    (passes_or_fails (p y))
+
+pub taken_while : (xs : List ℕ) (x : ℕ) → prefix_len (λ y. ltb y x) xs ≡ segment xs x
+taken_while xs x = simp zero-add at (prefix_from (λ y. ltb y x) xs (λ k. ltb (get_or xs k 0) x) 0 (λ k l. rw (zero-add k)))

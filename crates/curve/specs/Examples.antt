@@ -1,7 +1,7 @@
 -- On the sheet T of Rules, "Numbers to hold on to": how its percents are found, and two refusals. Its starred numbers stand in
 -- crates/credit/specs/Numbers.antt.
 -- Assumes nothing.
-use Rattle.std.specs.Prelude.{ℕ, [], ◌∷◌, ◌≡◌, refl}
+use Rattle.std.specs.Prelude.{ℕ, [], ◌∷◌, ◌≡◌, refl, Ok}
 use Rattle.laws.specs.First.{first_from}
 use Rattle.sheet.specs.Sheet.{previous, in_step, lengths_fit, without_rates, offending_rate, verdict_of}
 use Rattle.sheet.specs.Examples.{depths_t, rates_t, percents_t}
@@ -9,11 +9,9 @@ use Rattle.curve.specs.declared.Mode.{Mode}
 use Rattle.curve.specs.declared.Mode.TheVariants.{Step, Mix}
 use Rattle.curve.specs.declared.Basis.{Basis}
 use Rattle.curve.specs.declared.Basis.TheVariants.{Printed, Between, Start, Held}
-use Rattle.curve.specs.declared.PercentAnswer.{PercentAnswer}
-use Rattle.curve.specs.declared.PercentAnswer.TheVariants.{Granted}
 use Rattle.curve.specs.Curve.{height, fastest, curves_of, exact_in}
 use Rattle.curve.specs.Basis.{basis_at}
-use Rattle.curve.specs.Answers.{fastest_taken, rated, admission_of, percent_answer, given, reach_of, reach_given}
+use Rattle.curve.specs.Answers.{fastest_taken, rated, admission_of, PercentAnswer, percent_answer, given, reach_of, reach_given}
 
 -- what is answered on T
 abbrev pub asked_of_t : Mode → ℕ → ℕ → PercentAnswer
@@ -38,7 +36,7 @@ past_all = refl
 
 -- a percent that is granted, with its basis
 abbrev found : ℕ → Basis → PercentAnswer
-found p b = Granted (record { 0 = p }) b
+found p b = Ok (record { 0 = p }, b)
 
 -- T has the depths 20, 60 and 100 and the rates 25 and 75
 pub how_found :

@@ -1,6 +1,9 @@
--- What only private functions ask of one another: nobody need read it to believe the promises.
+-- What only private functions ask of one another, and what their proofs and those above say of a sheet: nobody need read it to believe
+-- the promises.
 -- Assumes nothing.
-use Rattle.std.specs.Prelude.{ℕ, ◌+◌, ◌*◌, ◌≤◌, ◌<◌, List, ◌≡◌, length, get_or}
+use Rattle.std.specs.Prelude.{ℕ, ◌+◌, ◌*◌, ◌≤◌, ◌<◌, List, ◌≡◌, length, get_or, Option, Some, None}
+use Rattle.units.specs.declared.Depth.{Depth}
+use Rattle.units.specs.declared.Percent.{Percent}
 use Rattle.units.specs.Limits.{most_rate, most_percent, highest_depth}
 use Rattle.sheet.specs.Sheet.{previous}
 use Rattle.sheet.specs.Rules.{Rules}
@@ -50,7 +53,13 @@ pub record Ready (ds rs ps : List ℕ) (c : Curves) : Type 0 where
   pub rules : Rules ds rs ps
   pub curves : Neighbours rs c
 
--- what a search for a target finds: the least depth, and its percent where that depth is on the grid
-pub record Reaching (ds ps : List ℕ) (c : Curves) (target depth percent : ℕ) : Type 0 where
+-- the least depth of the grid for a target, and its percent
+pub record LeastWith (ds ps : List ℕ) (c : Curves) (target depth percent : ℕ) : Type 0 where
+  pub on_grid : depth ≤ highest_depth
   pub least : depth ≡ depth_reaching (percent_at ds ps c) target
-  pub there : depth ≤ highest_depth → percent ≡ percent_at ds ps c depth
+  pub there : percent ≡ percent_at ds ps c depth
+
+-- what a search for a target finds: the least depth with its percent, or none on the grid
+abbrev pub Reaching : List ℕ → List ℕ → Curves → ℕ → Option (Depth × Percent) → Type 0
+Reaching ds ps c target None = highest_depth < depth_reaching (percent_at ds ps c) target
+Reaching ds ps c target (Some (d, p)) = LeastWith ds ps c target d.0 p.0

@@ -1,3 +1,4 @@
+pub mod Modes
 pub mod Curve
 pub mod Basis
 pub mod Answers

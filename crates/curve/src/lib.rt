@@ -1,20 +1,26 @@
 // Rules, "Curve sheets" and "How a percent was found": the percent of a sheet at a site rate and a depth, and its basis.
 #![tactic(auto)]
 
-ghost use Rattle.std.specs.Prelude.{◌≤◌, ◌<◌, ◌≡◌, length, get_or};
+ghost use Rattle.std.specs.Prelude.{◌≤◌, ◌<◌, ◌≡◌, true, length, get_or, MatchResult};
+ghost use Rattle.std.specs.Result.{is_ok};
+ghost use Rattle.std.specs.Coded.{Coded-set};
 ghost use Rattle.laws.specs.Line.{line};
-ghost use Rattle.sheet.specs.Sheet.{previous};
+ghost use Rattle.units.specs.Limits.{most_rate};
+ghost use Rattle.sheet.specs.Sheet.{previous, verdict_of};
+ghost use Rattle.curve.specs.declared.SheetError.TheVariants.{Unfit, Refused};
+ghost use Rattle.std.proofs.Common.{rules};
+ghost use Rattle.curve.specs.Modes.{modes, mode_place};
 ghost use Rattle.curve.specs.Curve.{held, segment, width, height, fastest, curves_of, exact_in, exact_at, percent_at};
 ghost use Rattle.curve.specs.Basis.{mixes, basis_at, basis_number};
-ghost use Rattle.curve.specs.Inner.{OnLine, InSegment, Rated, Between, Ready, Reaching};
-ghost use Rattle.curve.specs.Answers.{fastest_taken, rated, admission_of, percent_answer, reach_of};
+ghost use Rattle.curve.specs.Inner.{OnLine, Rated, Between, Reaching};
+ghost use Rattle.curve.specs.Answers.{fastest_taken, admission_of, percent_answer, reach_of};
 
 use refusal::Refusal;
-use sheet::Verdict;
-use units::{Depth, Percent, Rate};
+use sheet::{Fault, Sheet};
+use units::{Coded, Depth, Percent, Rate};
 
 // How the site rate picks among the sheet's rates.
-#[derive(Clone, Copy)]
+#[derive(Clone, Copy, Debug, PartialEq, Eq)]
 pub enum Mode {
     // The curve of the fastest sheet rate not above the site rate.
     Step,
@@ -22,12 +28,29 @@ pub enum Mode {
     Mix,
 }
 
+impl Coded for Mode {
+    ghost cases = { modes };
+
+    ghost place = { mode_place };
+
+    ghost in_order = { Prim.search rules };
+
+    fn cases() -> &'static [Mode] {
+        &[Mode::Step, Mode::Mix]
+    }
+
+    fn place(self) -> usize {
+        self as usize
+    }
+}
+
 // The curves that a site rate is credited by.
 #[derive(Clone, Copy)]
 pub enum Curves {
     // The curve of the rate at this place.
     One(usize),
-    // The line between the curves of the rates slow and fast, at this place and the next, read at the site rate.
+    // The line between the curves of the rates slow and fast, at this place and the next, read at the site rate. The rates stand beside
+    // the place: mixes and exact_in read them without the list.
     Two {
         low: usize,
         slow: Rate,
@@ -39,7 +62,8 @@ pub enum Curves {
 // How a percent was found.
 #[derive(Clone, Copy)]
 pub enum Basis {
-    // No percent was asked for, or it was refused.
+    // No percent was asked for, or it was refused. It stays a case, and is no Option, since the answers' definitions give it the
+    // number 0, and the theorem NeverNone says that no granted percent has it.
     None,
     // The depth is one of the sheet's, and nothing was mixed.
     Printed,
@@ -58,22 +82,31 @@ pub struct Fraction {
     pub under: u64,
 }
 
-// What 5, 6 and 7 leave of a sheet and a rate, before a depth is known.
+// Why a sheet and a site rate give no percent and no depth.
 #[derive(Clone, Copy)]
-pub enum Admission {
-    Admitted(Curves),
-    BadSheet { list: u64, place: usize },
+pub enum SheetError {
+    // 5: the sheet breaks a rule.
+    Unfit(Fault),
     Refused(Refusal),
 }
 
-#[derive(Clone, Copy)]
-pub enum PercentAnswer {
-    Granted(Percent, Basis),
-    BadSheet { list: u64, place: usize },
-    Refused(Refusal),
+impl From<Fault> for SheetError {
+    ghost from_gives = { λ fault error. error ≡ Unfit fault };
+
+    fn from(fault: Fault) -> SheetError {
+        SheetError::Unfit(fault)
+    }
 }
 
-// What is found for a target: the least grid depth, its percent and the basis of that, or why there is none.
+impl From<Refusal> for SheetError {
+    ghost from_gives = { λ why error. error ≡ Refused why };
+
+    fn from(why: Refusal) -> SheetError {
+        SheetError::Refused(why)
+    }
+}
+
+// What is found for a target on an accepted sheet: the least grid depth, its percent and the basis of that, or why there is none.
 #[derive(Clone, Copy)]
 pub enum Reached {
     Found(Depth, Percent, Basis),
@@ -81,9 +114,10 @@ pub enum Reached {
     TooHigh,
     // 10: no grid depth reaches the target.
     Short,
-    BadSheet { list: u64, place: usize },
-    Refused(Refusal),
 }
+
+// So many trials halve the 201 depths of the grid to one.
+const TRIALS: usize = 8;
 
 // The straight line from (x0, y0) to (x1, y1) at x, times its width.
 fn line(x0: u64, y0: u64, x1: u64, y1: u64, x: u64) -> u64
@@ -98,49 +132,14 @@ fn held(depths: &[u64], depth: Depth) -> Depth
     requires { 1 ≤ length depths.now }
     ensures { result.0 ≡ held depths.now depth.0 }
 {
-    let last = depths[depths.len() - 1];
-    if depth.0 <= last {
-        return depth;
-    }
-    Depth(last)
+    Depth(depth.0.min(depths[depths.len() - 1]))
 }
 
 // The place of the first of some rising numbers that is not below x: the segment of a depth, and the rates reached.
 fn segment(numbers: &[u64], x: u64) -> usize
     ensures { result ≡ segment numbers.now x }
 {
-    let mut k = 0;
-    while k < numbers.len() {
-        if numbers[k] < x {
-            k += 1;
-        } else {
-            return k;
-        }
-    }
-    k
-}
-
-// How wide segment k is.
-fn width(depths: &[u64], k: usize) -> u64
-    requires k_in_bounds { k < length depths.now }
-    requires k_bound { previous depths.now (length depths.now) k ≤ get_or depths.now k 0 }
-    ensures { result ≡ width depths.now k }
-{
-    let start = sheet::previous(depths, depths.len(), k);
-    depths[k] - start
-}
-
-// The curve of the rate at place j, at depth x of segment k, times the segment's width.
-fn height(depths: &[u64], rates: &[u64], percents: &[u64], j: usize, k: usize, x: Depth) -> u64
-    requires in_segment { InSegment depths.now rates.now percents.now k x.0 }
-    requires j_in_bounds { j < length rates.now }
-    ensures { result ≡ height depths.now percents.now j k x.0 }
-{
-    let n = depths.len();
-    let i = j * n + k;
-    let x0 = sheet::previous(depths, n, k);
-    let y0 = sheet::previous(percents, n, i);
-    line(x0, y0, depths[k], percents[i], x.0)
+    numbers.iter().take_while(|n| **n < x).count()
 }
 
 // The place of the fastest sheet rate not above the site rate.
@@ -152,191 +151,98 @@ fn fastest(rates: &[u64], rate: Rate) -> usize
 }
 
 // The curves of a site rate in a mode.
+#[tactic(auto, using(crate::proofs::Choices::next_fits), unfolding(crate::specs::Curve::curves_of))]
 fn choose(rates: &[u64], mode: Mode, rate: Rate) -> Curves
     requires { Rated rates.now rate.0 }
     ensures { result ≡ curves_of rates.now mode rate.0 }
 {
     let low = fastest(rates, rate);
-    match mode {
-        Mode::Step => Curves::One(low),
-        Mode::Mix => {
-            let next = low + 1;
-            if next < rates.len() {
-                return Curves::Two {
-                    low: low,
-                    slow: Rate(rates[low]),
-                    fast: Rate(rates[next]),
-                    rate: rate,
-                };
-            }
-            Curves::One(low)
-        }
-    }
-}
-
-// The exact percent by the curve of one rate.
-fn by_one(depths: &[u64], rates: &[u64], percents: &[u64], j: usize, k: usize, x: Depth) -> Fraction
-    requires in_segment { InSegment depths.now rates.now percents.now k x.0 }
-    requires j_in_bounds { j < length rates.now }
-    ensures { result ≡ exact_in depths.now percents.now (Curves.One j) k x.0 }
-{
-    Fraction {
-        over: height(depths, rates, percents, j, k, x),
-        under: width(depths, k),
-    }
-}
-
-// The exact percent by the line between the curves of two rates.
-fn by_two(
-    depths: &[u64],
-    rates: &[u64],
-    percents: &[u64],
-    j: usize,
-    slow: Rate,
-    fast: Rate,
-    rate: Rate,
-    k: usize,
-    x: Depth,
-) -> Fraction
-    requires in_segment { InSegment depths.now rates.now percents.now k x.0 }
-    requires between { Between rates.now j slow.0 fast.0 rate.0 }
-    ensures { result ≡ exact_in depths.now percents.now (Curves.Two j slow fast rate) k x.0 }
-{
-    let below = height(depths, rates, percents, j, k, x);
-    let above = height(depths, rates, percents, j + 1, k, x);
-    Fraction {
-        over: line(slow.0, below, fast.0, above, rate.0),
-        under: width(depths, k) * (fast.0 - slow.0),
-    }
-}
-
-// The exact percent at a depth.
-fn exact_at(
-    depths: &[u64],
-    rates: &[u64],
-    percents: &[u64],
-    curves: Curves,
-    depth: Depth,
-) -> Fraction
-    requires { Ready depths.now rates.now percents.now curves }
-    ensures { result ≡ exact_at depths.now percents.now curves depth.0 }
-{
-    let x = held(depths, depth);
-    let k = segment(depths, x.0);
-    match curves {
-        Curves::One(j) => by_one(depths, rates, percents, j, k, x),
-        Curves::Two {
+    match (mode, rates.get(low + 1)) {
+        (Mode::Mix, Some(&next)) => Curves::Two {
             low,
-            slow,
-            fast,
+            slow: Rate(rates[low]),
+            fast: Rate(next),
             rate,
-        } => by_two(depths, rates, percents, low, slow, fast, rate, k, x),
+        },
+        _ => Curves::One(low),
     }
-}
-
-// The percent at a depth: the exact one rounded down.
-fn percent_at(
-    depths: &[u64],
-    rates: &[u64],
-    percents: &[u64],
-    curves: Curves,
-    depth: Depth,
-) -> Percent
-    requires { Ready depths.now rates.now percents.now curves }
-    ensures { result.0 ≡ percent_at depths.now percents.now curves depth.0 }
-{
-    let f = exact_at(depths, rates, percents, curves, depth);
-    Percent(f.over / f.under)
 }
 
 // Two curves are mixed: the site rate is above the slower one.
 fn mixes(curves: Curves) -> bool
     ensures { result ≡ mixes curves }
 {
-    match curves {
-        Curves::One(_) => false,
-        Curves::Two {
-            low: _,
-            slow,
-            fast: _,
-            rate,
-        } => slow.0 < rate.0,
-    }
+    matches!(curves, Curves::Two { slow, rate, .. } if slow.0 < rate.0)
 }
 
-// How the percent at a depth was found.
-fn basis_at(depths: &[u64], curves: Curves, depth: Depth) -> Basis
-    requires { 1 ≤ length depths.now }
-    ensures { result ≡ basis_at depths.now curves depth.0 }
-{
-    if depth.0 < depths[0] {
-        return Basis::Start;
-    }
-    if depths[depths.len() - 1] < depth.0 {
-        return Basis::Held;
-    }
-    if mixes(curves) {
-        return Basis::Between;
-    }
-    if depths[segment(depths, depth.0)] == depth.0 {
-        return Basis::Printed;
-    }
-    Basis::Between
-}
-
-// The number of a basis.
-pub fn basis_number(basis: Basis) -> u64
-    ensures { result ≡ basis_number basis }
-{
-    match basis {
-        Basis::None => 0,
-        Basis::Printed => 1,
-        Basis::Between => 2,
-        Basis::Start => 3,
-        Basis::Held => 4,
-    }
-}
-
-// A depth that was searched for, and its percent.
+// A depth x of an accepted sheet, in its segment k.
 #[derive(Clone, Copy)]
-struct Lowest {
-    depth: Depth,
-    percent: Percent,
+struct Spot<'a> {
+    sheet: Sheet<'a>,
+    k: usize,
+    x: Depth,
+    ghost accepted: { is_ok (verdict_of sheet.depths.now sheet.rates.now sheet.percents.now) ≡ true },
+    ghost within: { k < length sheet.depths.now },
+    ghost from: { previous sheet.depths.now (length sheet.depths.now) k ≤ x.0 },
+    ghost to: { x.0 ≤ get_or sheet.depths.now k 0 },
 }
 
-// The least grid depth whose percent is at least the target, with that percent, or 201: found in at most 8 percents.
-fn least(depths: &[u64], rates: &[u64], percents: &[u64], curves: Curves, target: Percent) -> Lowest
-    requires { Ready depths.now rates.now percents.now curves }
-    ensures { Reaching depths.now percents.now curves target.0 result.depth.0 result.percent.0 }
-{
-    let mut low = Depth::LOWEST;
-    let mut high = Depth::HIGHEST + 1;
-    let mut percent = Percent(0);
-    let mut trials: u64 = 8;
-    while 0 < trials {
-        if high <= low {
-            return Lowest {
-                depth: Depth(low),
-                percent,
-            };
-        }
-        let middle = low + (high - low) / 2;
-        trials -= 1;
-        let there = percent_at(depths, rates, percents, curves, Depth(middle));
-        if there.0 < target.0 {
-            low = middle + 1;
-        } else {
-            high = middle;
-            percent = there;
+impl Spot<'_> {
+    // How wide the segment is.
+    fn width(self) -> u64
+        ensures { result ≡ width self.entry.sheet.depths.now self.entry.k }
+    {
+        let depths = self.sheet.depths;
+        depths[self.k] - sheet::previous(depths, depths.len(), self.k)
+    }
+
+    // The curve of the rate at place j, times the segment's width.
+    #[tactic(auto, unfolding(crate::specs::Curve::height))]
+    fn height(self, j: usize) -> u64
+        requires { j < length self.sheet.rates.now }
+        ensures { result ≡ height self.entry.sheet.depths.now self.entry.sheet.percents.now j self.entry.k self.entry.x.0 }
+    {
+        let Sheet {
+            depths,
+            rates: _,
+            percents,
+        } = self.sheet;
+        let n = depths.len();
+        let i = j * n + self.k;
+        let x0 = sheet::previous(depths, n, self.k);
+        let y0 = sheet::previous(percents, n, i);
+        line(x0, y0, depths[self.k], percents[i], self.x.0)
+    }
+
+    // The exact percent by the curve of one rate.
+    #[tactic(auto, unfolding(crate::specs::Curve::exact_in))]
+    fn by_one(self, j: usize) -> Fraction
+        requires { j < length self.sheet.rates.now }
+        ensures { result ≡ exact_in self.entry.sheet.depths.now self.entry.sheet.percents.now (Curves.One j) self.entry.k self.entry.x.0 }
+    {
+        Fraction {
+            over: self.height(j),
+            under: self.width(),
         }
     }
-    Lowest {
-        depth: Depth(low),
-        percent,
+
+    // The exact percent by the line between the curves of two rates.
+    #[tactic(auto, unfolding(crate::specs::Curve::exact_in))]
+    fn by_two(self, j: usize, slow: Rate, fast: Rate, rate: Rate) -> Fraction
+        requires { Between self.sheet.rates.now j slow.0 fast.0 rate.0 }
+        ensures { result ≡ exact_in self.entry.sheet.depths.now self.entry.sheet.percents.now (Curves.Two j slow fast rate) self.entry.k self.entry.x.0 }
+    {
+        let below = self.height(j);
+        let above = self.height(j + 1);
+        Fraction {
+            over: line(slow.0, below, fast.0, above, rate.0),
+            under: self.width() * (fast.0 - slow.0),
+        }
     }
 }
 
 // The fastest site rate that a sheet takes: 0 where it is without rates.
+#[tactic(auto, unfolding(crate::specs::Answers::fastest_taken))]
 fn fastest_taken(rates: &[u64]) -> Rate
     ensures { result.0 ≡ fastest_taken rates.now }
 {
@@ -346,85 +252,158 @@ fn fastest_taken(rates: &[u64]) -> Rate
     Rate(units::MOST_RATE)
 }
 
-// Tries 6 and 7, and finds the curves of the site rate.
-fn by_rate(rates: &[u64], mode: Mode, rate: Rate) -> Admission
-    requires { 1 ≤ length rates.now }
-    ensures { result ≡ rated rates.now mode rate.0 }
-{
-    let most = fastest_taken(rates);
-    if most.0 < rate.0 {
-        return Admission::Refused(Refusal::RateOutOfRange);
-    }
-    if rate.0 < rates[0] {
-        return Admission::Refused(Refusal::RateBelowSheet);
-    }
-    Admission::Admitted(choose(rates, mode, rate))
+// An accepted sheet at a site rate, with the curves of the rate: all that is known before a depth is.
+#[derive(Clone, Copy)]
+struct Admitted<'a> {
+    sheet: Sheet<'a>,
+    mode: Mode,
+    rate: Rate,
+    curves: Curves,
+    ghost accepted: { is_ok (verdict_of sheet.depths.now sheet.rates.now sheet.percents.now) ≡ true },
+    ghost slowest: { get_or sheet.rates.now 0 0 ≤ rate.0 },
+    ghost taken: { rate.0 ≤ most_rate },
+    ghost chosen: { curves ≡ curves_of sheet.rates.now mode rate.0 } by { Coded-set curves-code curves (curves_of sheet.rates.now mode rate.0) },
 }
 
-// Tries 5, 6 and 7, and finds the curves of the site rate: all that is known before a depth is.
-fn admit(depths: &[u64], rates: &[u64], percents: &[u64], mode: Mode, rate: Rate) -> Admission
-    ensures { result ≡ admission_of depths.now rates.now percents.now mode rate.0 }
-{
-    let verdict = sheet::judge(depths, rates, percents);
-    match verdict {
-        Verdict::Fine => by_rate(rates, mode, rate),
-        Verdict::Unfit { list, place } => Admission::BadSheet { list, place },
+impl<'a> Admitted<'a> {
+    // Tries 5, 6 and 7.
+    fn admit(sheet: Sheet<'a>, mode: Mode, rate: Rate) -> Result<Admitted<'a>, SheetError>
+        ensures { MatchResult result (λ admitted. (admitted.sheet ≡ sheet.entry) × (Ok admitted.curves ≡ admission_of sheet.entry.depths.now sheet.entry.rates.now sheet.entry.percents.now mode rate.0)) (λ error. Err error ≡ admission_of sheet.entry.depths.now sheet.entry.rates.now sheet.entry.percents.now mode rate.0) }
+    {
+        sheet.judge()?;
+        if fastest_taken(sheet.rates).0 < rate.0 {
+            return Err(SheetError::Refused(Refusal::RateOutOfRange));
+        }
+        if rate.0 < sheet.rates[0] {
+            return Err(SheetError::Refused(Refusal::RateBelowSheet));
+        }
+        Ok(Admitted {
+            sheet,
+            mode,
+            rate,
+            curves: choose(sheet.rates, mode, rate),
+        })
+    }
+
+    // The segment in which a depth is read.
+    fn spot(self, depth: Depth) -> Spot<'a>
+        ensures sheet { result.sheet ≡ self.entry.sheet }
+        ensures depth { result.x.0 ≡ held self.entry.sheet.depths.now depth.0 }
+        ensures segment { result.k ≡ segment self.entry.sheet.depths.now result.x.0 }
+    {
+        let x = held(self.sheet.depths, depth);
+        Spot {
+            sheet: self.sheet,
+            k: segment(self.sheet.depths, x.0),
+            x,
+        }
+    }
+
+    // The exact percent at a depth.
+    fn exact_at(self, depth: Depth) -> Fraction
+        ensures { result ≡ exact_at self.entry.sheet.depths.now self.entry.sheet.percents.now self.entry.curves depth.0 }
+    {
+        let spot = self.spot(depth);
+        match self.curves {
+            Curves::One(j) => spot.by_one(j),
+            Curves::Two {
+                low,
+                slow,
+                fast,
+                rate,
+            } => spot.by_two(low, slow, fast, rate),
+        }
+    }
+
+    // The percent at a depth: the exact one rounded down.
+    fn percent_at(self, depth: Depth) -> Percent
+        ensures { result.0 ≡ percent_at self.entry.sheet.depths.now self.entry.sheet.percents.now self.entry.curves depth.0 }
+    {
+        let f = self.exact_at(depth);
+        Percent(f.over / f.under)
+    }
+
+    // How the percent at a depth was found.
+    #[tactic(auto, unfolding(crate::specs::Basis::basis_at))]
+    fn basis_at(self, depth: Depth) -> Basis
+        ensures { result ≡ basis_at self.entry.sheet.depths.now self.entry.curves depth.0 }
+    {
+        let depths = self.sheet.depths;
+        if depth.0 < depths[0] {
+            return Basis::Start;
+        }
+        if depths[depths.len() - 1] < depth.0 {
+            return Basis::Held;
+        }
+        if mixes(self.curves) {
+            return Basis::Between;
+        }
+        if depths[segment(depths, depth.0)] == depth.0 {
+            return Basis::Printed;
+        }
+        Basis::Between
+    }
+
+    // The least grid depth whose percent is at least the target, with that percent. The grid is halved, which is no walk over a list.
+    fn least(self, target: Percent) -> Option<(Depth, Percent)>
+        ensures { Reaching self.entry.sheet.depths.now self.entry.sheet.percents.now self.entry.curves target.0 result }
+    {
+        let mut low = Depth::LOWEST;
+        let mut high = Depth::HIGHEST + 1;
+        // What was found at high.
+        let mut found = None;
+        for _ in 0..TRIALS {
+            if high <= low {
+                break;
+            }
+            let middle = low + (high - low) / 2;
+            let percent = self.percent_at(Depth(middle));
+            if percent.0 < target.0 {
+                low = middle + 1;
+            } else {
+                high = middle;
+                found = Some((Depth(middle), percent));
+            }
+        }
+        found
+    }
+}
+
+impl Basis {
+    // The rules' number of a basis.
+    pub fn number(self) -> u64
+        ensures { result ≡ basis_number self }
+    {
+        self as u64
     }
 }
 
 // The percent of a lent sheet at a site rate and a depth, with its basis.
 pub fn percent(
-    depths: &[u64],
-    rates: &[u64],
-    percents: &[u64],
+    sheet: Sheet,
     mode: Mode,
     rate: Rate,
     depth: Depth,
-) -> PercentAnswer
-    ensures { result ≡ percent_answer depths.now rates.now percents.now mode rate.0 depth.0 }
+) -> Result<(Percent, Basis), SheetError>
+    ensures { result ≡ percent_answer sheet.entry.depths.now sheet.entry.rates.now sheet.entry.percents.now mode rate.0 depth.0 }
 {
-    let admission = admit(depths, rates, percents, mode, rate);
-    match admission {
-        Admission::Admitted(curves) => {
-            if depth.0 <= Depth::HIGHEST {
-                return PercentAnswer::Granted(
-                    percent_at(depths, rates, percents, curves, depth),
-                    basis_at(depths, curves, depth),
-                );
-            }
-            PercentAnswer::Refused(Refusal::AmountOutOfRange)
-        }
-        Admission::BadSheet { list, place } => PercentAnswer::BadSheet { list, place },
-        Admission::Refused(r) => PercentAnswer::Refused(r),
+    let admitted = Admitted::admit(sheet, mode, rate)?;
+    if Depth::HIGHEST < depth.0 {
+        return Err(SheetError::Refused(Refusal::AmountOutOfRange));
     }
+    Ok((admitted.percent_at(depth), admitted.basis_at(depth)))
 }
 
 // The least grid depth of a lent sheet whose percent is at least the target, with that percent and its basis.
-pub fn reach(
-    depths: &[u64],
-    rates: &[u64],
-    percents: &[u64],
-    mode: Mode,
-    rate: Rate,
-    target: Percent,
-) -> Reached
-    ensures { result ≡ reach_of depths.now rates.now percents.now mode rate.0 target.0 }
+pub fn reach(sheet: Sheet, mode: Mode, rate: Rate, target: Percent) -> Result<Reached, SheetError>
+    ensures { result ≡ reach_of sheet.entry.depths.now sheet.entry.rates.now sheet.entry.percents.now mode rate.0 target.0 }
 {
-    let admission = admit(depths, rates, percents, mode, rate);
-    match admission {
-        Admission::Admitted(curves) => {
-            if units::MOST_PERCENT < target.0 {
-                return Reached::TooHigh;
-            }
-            let found = least(depths, rates, percents, curves, target);
-            let depth = found.depth;
-            let percent = found.percent;
-            if depth.0 <= Depth::HIGHEST {
-                return Reached::Found(depth, percent, basis_at(depths, curves, depth));
-            }
-            Reached::Short
-        }
-        Admission::BadSheet { list, place } => Reached::BadSheet { list, place },
-        Admission::Refused(r) => Reached::Refused(r),
+    let admitted = Admitted::admit(sheet, mode, rate)?;
+    if units::MOST_PERCENT < target.0 {
+        return Ok(Reached::TooHigh);
+    }
+    match admitted.least(target) {
+        Some((depth, percent)) => Ok(Reached::Found(depth, percent, admitted.basis_at(depth))),
+        None => Ok(Reached::Short),
     }
 }

@@ -1,5 +1,6 @@
 -- Sites that are built from an empty one by granted adds, as a reading builds them.
 -- Assumes nothing.
+use Rattle.std.specs.Prelude.{Ok}
 use Prim.Native.Nat.{◌+◌, ◌<◌}
 use mathlib.Core.List.{[], ◌∷◌, ◌++◌}
 use mathlib.Core.Path.{◌≡◌, refl, sym, ◌∙◌, ap}
@@ -8,8 +9,7 @@ use Rattle.laws.specs.Table.{values_from}
 use Rattle.units.specs.declared.Area.{Area}
 use Rattle.site.specs.declared.SubArea.{SubArea}
 use Rattle.site.specs.declared.Site.{Site}
-use Rattle.site.specs.declared.Added.{Added}
-use Rattle.site.specs.declared.AreaAnswer.TheVariants.{Granted}
+use Rattle.site.specs.Adding.{Added}
 use Rattle.site.specs.Parts.{numbers_of, empty_site}
 use Rattle.site.specs.Judging.{judged, given}
 use Rattle.site.specs.Adding.{spent_at, added}
@@ -23,7 +23,7 @@ use Rattle.site.proofs.Runs.{up_more}
 -- A record in memory that is judged fine with its total area, whose n sub-areas have the numbers 1 to n, and whose counter is n + 1.
 pub record Built (s : Site) (total : Area) : Type 0 where
   pub memory : InMemory s
-  pub fine : judged s ≡ Granted total
+  pub fine : judged s ≡ Ok total
   pub numbers : numbers_of s ≡ up_from 1 s.count
   pub counter : s.counter ≡ s.count + 1
 
@@ -40,7 +40,7 @@ module _ (s : Site) (total : Area) (b : Built s total) where
       omega arith
 
   -- A granted add builds on.
-  pub built_more : (p : SubArea) (more : Area) → (added s p).answer ≡ Granted more → Built (added s p).site more
+  pub built_more : (p : SubArea) (more : Area) → (added s p).answer ≡ Ok more → Built (added s p).site more
   built_more p more e =
       let holds = granted_holds s p more.0 b.memory (ap given e) in
       let put = ap (λ (x : Added). x.site) (stores s p more e) in

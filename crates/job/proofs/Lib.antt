@@ -1,12 +1,12 @@
 pub mod Scanning
+pub mod Fields
 pub mod Valued
 pub mod Heads
-pub mod Fields
 pub mod AreaLines
 pub mod Telling
 pub mod Building
 pub mod Walking
 pub mod Whole
-pub mod Faults
 pub mod Promises
 pub mod Refusals
+pub mod Faults

@@ -1,11 +1,11 @@
 -- A word of an area line that is read where it stands is the first field of its line.
 -- Assumes nothing.
+use Rattle.std.specs.Prelude.{Some, None}
 use Prim.Native.Nat.{ℕ}
 use mathlib.Core.Path.{◌≡◌, refl, sym, ◌∙◌}
 use mathlib.Core.Bool.{Bool, true, false, cond}
 use mathlib.Core.List.{List}
 use lib.ListN.{drop}
-use Rattle.text.specs.declared.Found.TheVariants.{At, Nothing}
 use Rattle.text.specs.Pieces.{line_feed, comma, before_of, after_of}
 use Rattle.text.specs.Words.{place_from, word_from}
 use Rattle.text.proofs.Splitting.{has_of}
@@ -17,22 +17,22 @@ module _ (ws : List (List ℕ)) (s : List ℕ) (at : ℕ) (f : all_free comma ws
   abbrev line : List ℕ
   line = before_of line_feed (drop at s)
 
-  pub field_place : (word_from ws comma s at 0).place ≡ cond (has_of comma line) (place_from ws (before_of comma line) 0) Nothing
+  pub field_place : (word_from ws comma s at 0).place ≡ cond (has_of comma line) (place_from ws (before_of comma line) 0) None
   field_place =
       step_place ws comma s at 0
       ∙ sym (standing_cut ws comma line_feed (drop at s) 0 g refl)
       ∙ standing_place ws comma line 0 f
 
-  pub field_there : {j : ℕ} → (word_from ws comma s at 0).place ≡ At j → has_of comma line ≡ true
+  pub field_there : {j : ℕ} → (word_from ws comma s at 0).place ≡ Some j → has_of comma line ≡ true
   field_there {j} h = pick (has_of comma line) refl (sym field_place ∙ h)
     where
-      pick : (there : Bool) → has_of comma line ≡ there → cond there (place_from ws (before_of comma line) 0) Nothing ≡ At j → has_of comma line ≡ true
+      pick : (there : Bool) → has_of comma line ≡ there → cond there (place_from ws (before_of comma line) 0) None ≡ Some j → has_of comma line ≡ true
       pick true e h = e
       pick false e h = cc
 
   -- behind it stand the other fields of the line
-  pub field_rest : {j : ℕ} → (word_from ws comma s at 0).place ≡ At j → after_of comma line ≡ before_of line_feed (drop (word_from ws comma s at 0).next s)
+  pub field_rest : {j : ℕ} → (word_from ws comma s at 0).place ≡ Some j → after_of comma line ≡ before_of line_feed (drop (word_from ws comma s at 0).next s)
   field_rest h = rw (step_after ws comma s at 0 f h) (field_behind comma line_feed (drop at s) (field_there h))
 
-  pub field_goes_on : {j : ℕ} → (word_from ws comma s at 0).place ≡ At j → On line_feed (drop at s) (drop (word_from ws comma s at 0).next s)
+  pub field_goes_on : {j : ℕ} → (word_from ws comma s at 0).place ≡ Some j → On line_feed (drop at s) (drop (word_from ws comma s at 0).next s)
   field_goes_on h = rw (step_after ws comma s at 0 f h) (field_on comma line_feed (drop at s) (field_there h))

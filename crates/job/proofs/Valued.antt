@@ -1,5 +1,7 @@
 -- The lines of a job text, by the words and numbers that are read where they stand.
 -- Assumes nothing.
+use Rattle.std.specs.Prelude.{Option, Some, None, ℕ, option_map}
+use Rattle.std.proofs.lemmas.Option.{some_pair_parts}
 use Prim.Native.Nat.{ℕ, ◌+◌, ◌-◌, ◌≤◌, ◌<◌}
 use mathlib.Core.Path.{◌≡◌, refl, sym, ◌∙◌, ap}
 use mathlib.Core.Bool.{Bool, true, false, cond}
@@ -7,11 +9,8 @@ use mathlib.Core.List.{List, []}
 use native.Mathlib.Omega.{arith}
 use native.Mathlib.Nat.{sub-zero}
 use borrow.Author.Tests.{lt-ltb, le-ltb}
-use lib.ListN.{length, drop, length-drop}
+use lib.ListN.{length, drop, length-drop, get_or}
 use lib.Seq.{drop-drop, drop-length}
-use Rattle.text.specs.declared.Found.TheVariants.{At, Nothing}
-use Rattle.text.specs.declared.Numeral.{Numeral}
-use Rattle.text.specs.declared.Numeral.TheVariants as number
 use Rattle.text.specs.Part.{part_of}
 use Rattle.text.specs.Pieces.{line_feed, index_of, before_of, after_of, next_of}
 use Rattle.text.specs.Words.{opens_of, behind_of, place_from, word_from}
@@ -20,9 +19,9 @@ use Rattle.text.proofs.Parts.{part_tail}
 use Rattle.text.proofs.Splitting.{has_of, pieces_step}
 use Rattle.text.proofs.Front.{free, all_free, opens_cut, On, key_on, key_value}
 use Rattle.text.specs.declared.WordStep.{WordStep}
-use Rattle.job.specs.declared.NumberStep.{NumberStep}
 use Rattle.job.specs.Lines.{lines_of, value_of}
-use Rattle.job.specs.Inner.{counted_at}
+use Rattle.job.specs.Inner.{told_word, told_case, counted_at}
+use Rattle.job.proofs.Fields.{Word, word_none, word_some, case_none, case_some}
 use Rattle.text.proofs.Standing.{step_after, word_place}
 
 -- the value of an ended line, and of one that is not
@@ -98,92 +97,138 @@ module _ (s : List ℕ) (at : ℕ) {end : ℕ} (e : end ≡ next_of line_feed s 
   end_index : end ≡ at + index_of line_feed (drop at s)
   end_index = e ∙ rw (part_tail s at)
 
-  pub number_unended : length s ≤ end → record { numeral = number.Malformed; next = length s } ≡ counted_at s at
+  pub number_unended : length s ≤ end → None ≡ counted_at s at
   unfolding counted_at
   number_unended h =
       let i = end_index in
       let l = length-drop at s in
       rw (le-ltb (index_of line_feed (drop at s)) (length (drop at s)) (omega arith))
 
-  pub number_ended : {v : List ℕ} {n : Numeral} → end < length s → v ≡ part_of s at end → n ≡ numeral_of v → record { numeral = n; next = end + 1 } ≡ counted_at s at
+  number_ended : {v : List ℕ} → end < length s → v ≡ part_of s at end → option_map (λ n. (n, end + 1)) (numeral_of v) ≡ counted_at s at
   unfolding counted_at part_of
-  number_ended {v} {n} h p q =
+  number_ended {v} h p =
       let t = drop at s in
       let i = end_index in
       let l = length-drop at s in
       let m : end + 1 ≡ at + (index_of line_feed t + 1) = omega arith in
       let d : end - at ≡ index_of line_feed t = omega arith in
-      let c : n ≡ numeral_of (before_of line_feed t) = q ∙ ap numeral_of (p ∙ cut_out d) in
+      let c : numeral_of v ≡ numeral_of (before_of line_feed t) = ap numeral_of (p ∙ cut_out d) in
       rw (lt-ltb (index_of line_feed t) (length t) (omega arith), m, c)
     where
       cut_out : end - at ≡ index_of line_feed (drop at s) → part_of s at end ≡ before_of line_feed (drop at s)
       cut_out d = rw (d, sub-zero)
 
-pub numeral_told : (s : List ℕ) (at : ℕ) → (counted_at s at).numeral ≡ cond (has_of line_feed (drop at s)) (numeral_of (before_of line_feed (drop at s))) number.Malformed
+  pub number_unread : {v : List ℕ} → end < length s → v ≡ part_of s at end → None ≡ numeral_of v → None ≡ counted_at s at
+  number_unread {v} h p q = rw (← q) at (number_ended h p)
+
+  pub number_read : {v : List ℕ} {n : ℕ} → end < length s → v ≡ part_of s at end → numeral_of v ≡ Some n → Some (n, end + 1) ≡ counted_at s at
+  number_read {v} h p q = rw q at (number_ended h p)
+
+-- what the number at a place says, and what it tells where it is read
+abbrev pub numeral_at : List ℕ → ℕ → Option ℕ
+numeral_at s at = cond (has_of line_feed (drop at s)) (numeral_of (before_of line_feed (drop at s))) None
+
+pub record Number (s : List ℕ) (at a next : ℕ) : Type 0 where
+  pub says : numeral_at s at ≡ Some a
+  pub there : has_of line_feed (drop at s) ≡ true
+  pub behind : drop next s ≡ after_of line_feed (drop at s)
+
+pub counted_none : (s : List ℕ) (at : ℕ) → counted_at s at ≡ None → numeral_at s at ≡ None
 unfolding counted_at
-numeral_told s at = pick (has_of line_feed (drop at s))
+counted_none s at e = pick (has_of line_feed (drop at s)) (numeral_of (before_of line_feed (drop at s))) e
   where
-    pick : (h : Bool) → (cond {A = NumberStep} h (record { numeral = numeral_of (before_of line_feed (drop at s)); next = at + (index_of line_feed (drop at s) + 1) }) (record { numeral = number.Malformed; next = length s })).numeral ≡ cond h (numeral_of (before_of line_feed (drop at s))) number.Malformed
-    pick true = refl
-    pick false = refl
+    pick : (h : Bool) (o : Option ℕ) → cond h (option_map {U = ℕ × ℕ} (λ n. (n, at + (index_of line_feed (drop at s) + 1))) o) None ≡ None → cond h o None ≡ None
+    pick true None e = refl
+    pick true (Some n) e = cc
+    pick false o e = refl
 
-pub counted_there : (s : List ℕ) (at : ℕ) {a : ℕ} → (counted_at s at).numeral ≡ number.Is a → has_of line_feed (drop at s) ≡ true
-counted_there s at {a} e = pick (has_of line_feed (drop at s)) refl (sym (numeral_told s at) ∙ e)
-  where
-    pick : (h : Bool) → has_of line_feed (drop at s) ≡ h → cond h (numeral_of (before_of line_feed (drop at s))) number.Malformed ≡ number.Is a → has_of line_feed (drop at s) ≡ true
-    pick true h e = h
-    pick false h e = cc
-
-pub counted_after : (s : List ℕ) (at : ℕ) → has_of line_feed (drop at s) ≡ true → drop (counted_at s at).next s ≡ after_of line_feed (drop at s)
+pub counted_some : (s : List ℕ) (at : ℕ) {a next : ℕ} → counted_at s at ≡ Some (a, next) → Number s at a next
 unfolding counted_at
-counted_after s at h =
-    let t = drop at s in
-    rw (h, part_tail t (index_of line_feed t + 1)) (sym (drop-drop (index_of line_feed t + 1) at s))
+counted_some s at {a} {next} e = pick (has_of line_feed (drop at s)) (numeral_of (before_of line_feed (drop at s))) refl refl e
+  where
+    t : List ℕ
+    t = drop at s
 
--- A line that is read: what it says, and the lines behind it where it says something.
-pub record WordLine (key : List ℕ) (ws : List (List ℕ)) (s : List ℕ) (at : ℕ) (r : WordStep) : Type 0 where
-  pub says : r.place ≡ place_from ws (value_of key (lines_of (drop at s))) 0
-  pub behind : (j : ℕ) → r.place ≡ At j → lines_of (drop r.next s) ≡ drop 1 (lines_of (drop at s))
+    pick : (h : Bool) (o : Option ℕ) → has_of line_feed t ≡ h → numeral_of (before_of line_feed t) ≡ o → cond h (option_map {U = ℕ × ℕ} (λ n. (n, at + (index_of line_feed t + 1))) o) None ≡ Some (a, next) → Number s at a next
+    pick true None h q e = cc
+    pick true (Some n) h q e =
+        let same = some_pair_parts n a (at + (index_of line_feed t + 1)) next e in
+        record {
+          says = rw (h, q, same.0);
+          there = h;
+          behind = rw (← same.1, part_tail t (index_of line_feed t + 1)) (sym (drop-drop (index_of line_feed t + 1) at s));
+        }
+    pick false o h q e = cc
 
-pub record NumberLine (key s : List ℕ) (at : ℕ) (r : NumberStep) : Type 0 where
-  pub says : r.numeral ≡ numeral_of (value_of key (lines_of (drop at s)))
-  pub behind : (a : ℕ) → r.numeral ≡ number.Is a → lines_of (drop r.next s) ≡ drop 1 (lines_of (drop at s))
+-- A line that is read: it says something or nothing, and where it says something the lines behind it follow.
+pub record LineRead {X : Type 0} (said : Option X) (s : List ℕ) (at : ℕ) (r : Option (X × ℕ)) : Type 0 where
+  pub bad : r ≡ None → said ≡ None
+  pub read : (x : X) (next : ℕ) → r ≡ Some (x, next) → said ≡ Some x
+  pub behind : (x : X) (next : ℕ) → r ≡ Some (x, next) → lines_of (drop next s) ≡ drop 1 (lines_of (drop at s))
 
 module _ (key s : List ℕ) (at : ℕ) (f : free line_feed key ≡ true) where
-  abbrev behind_key : List ℕ
-  behind_key = drop (behind_of key s at) s
+  abbrev behind_key : ℕ
+  behind_key = behind_of key s at
+
+  abbrev rest : List ℕ
+  rest = drop behind_key s
 
   -- behind an ended line stand the others
-  lines_behind : (n : ℕ) → has_of line_feed behind_key ≡ true → drop n s ≡ after_of line_feed behind_key → lines_of (drop n s) ≡ drop 1 (lines_of (drop at s))
+  lines_behind : (n : ℕ) → has_of line_feed rest ≡ true → drop n s ≡ after_of line_feed rest → lines_of (drop n s) ≡ drop 1 (lines_of (drop at s))
   lines_behind n h e =
       let on = read_goes_on key s at f h in
       rw (e, on.after) (lines_after (drop at s) (sym on.there ∙ h))
 
-  pub word_line : (ws : List (List ℕ)) → all_free line_feed ws ≡ true → place_from ws [] 0 ≡ Nothing → {r : WordStep} → r ≡ word_from ws line_feed s (behind_of key s at) 0 → WordLine key ws s at r
-  word_line ws g none e =
-      rw e
-      (record {
-        says = word_place ws line_feed s (behind_of key s at) g ∙ sym (rw (value_read key s at f) (pick (has_of line_feed behind_key)));
-        behind = λ j h. lines_behind (word_from ws line_feed s (behind_of key s at) 0).next (ended (has_of line_feed behind_key) refl (sym (word_place ws line_feed s (behind_of key s at) g) ∙ h)) (step_after ws line_feed s (behind_of key s at) 0 g h);
-      })
-    where
-      pick : (h : Bool) → place_from ws (cond h (before_of line_feed behind_key) []) 0 ≡ cond h (place_from ws (before_of line_feed behind_key) 0) Nothing
-      pick true = refl
-      pick false = none
+  module _ (ws : List (List ℕ)) (g : all_free line_feed ws ≡ true) (none : place_from ws [] 0 ≡ None) where
+    abbrev w : WordStep
+    w = word_from ws line_feed s behind_key 0
 
-      ended : (h : Bool) → has_of line_feed behind_key ≡ h → {j : ℕ} → cond h (place_from ws (before_of line_feed behind_key) 0) Nothing ≡ At j → has_of line_feed behind_key ≡ true
-      ended true e h = e
-      ended false e h = cc
+    word_says : w.place ≡ place_from ws (value_of key (lines_of (drop at s))) 0
+    word_says = word_place ws line_feed s behind_key g ∙ sym (rw (value_read key s at f) (pick (has_of line_feed rest)))
+      where
+        pick : (h : Bool) → place_from ws (cond h (before_of line_feed rest) []) 0 ≡ cond h (place_from ws (before_of line_feed rest) 0) None
+        pick true = refl
+        pick false = none
 
-  pub number_line_lem : {r : NumberStep} → r ≡ counted_at s (behind_of key s at) → NumberLine key s at r
+    word_behind : {k next : ℕ} → Word w k next → lines_of (drop next s) ≡ drop 1 (lines_of (drop at s))
+    word_behind {k} {next} h =
+        rw (← h.behind) (lines_behind w.next (ended (has_of line_feed rest) refl (sym (word_place ws line_feed s behind_key g) ∙ h.place)) (step_after ws line_feed s behind_key 0 g h.place))
+      where
+        ended : (there : Bool) → has_of line_feed rest ≡ there → cond there (place_from ws (before_of line_feed rest) 0) None ≡ Some k → has_of line_feed rest ≡ true
+        ended true e h = e
+        ended false e h = cc
+
+    pub word_line : {r : Option (ℕ × ℕ)} → r ≡ told_word w → LineRead (place_from ws (value_of key (lines_of (drop at s))) 0) s at r
+    word_line e =
+        record {
+          bad = λ h. sym word_says ∙ word_none w (sym e ∙ h);
+          read = λ k next h. sym word_says ∙ (word_some w (sym e ∙ h)).place;
+          behind = λ k next h. word_behind (word_some w (sym e ∙ h));
+        }
+
+    pub case_line : {X : Type 0} (cases : List X) (d : X) → length ws ≡ length cases → {r : Option (X × ℕ)} → r ≡ told_case cases w → LineRead (option_map (λ k. get_or cases k d) (place_from ws (value_of key (lines_of (drop at s))) 0)) s at r
+    case_line {X} cases d same e =
+        record {
+          bad = λ h. ap told (sym word_says ∙ case_none cases d ws line_feed s behind_key same (sym e ∙ h));
+          read = λ x next h. let c = case_some cases d ws line_feed s behind_key same (sym e ∙ h) in ap told (sym word_says ∙ c.1.0.place) ∙ ap Some c.1.1;
+          behind = λ x next h. word_behind (case_some cases d ws line_feed s behind_key same (sym e ∙ h)).1.0;
+        }
+      where
+        told : Option ℕ → Option X
+        told o = option_map (λ k. get_or cases k d) o
+
+  pub number_line : {r : Option (ℕ × ℕ)} → r ≡ counted_at s behind_key → LineRead (numeral_of (value_of key (lines_of (drop at s)))) s at r
   unfolding numeral_of
-  number_line_lem e =
-      rw e
-      (record {
-        says = numeral_told s (behind_of key s at) ∙ sym (rw (value_read key s at f) (pick (has_of line_feed behind_key)));
-        behind = λ a h. let there = counted_there s (behind_of key s at) h in lines_behind (counted_at s (behind_of key s at)).next there (counted_after s (behind_of key s at) there);
-      })
+  number_line e =
+      record {
+        bad = λ h. sym says ∙ counted_none s behind_key (sym e ∙ h);
+        read = λ a next h. sym says ∙ (counted_some s behind_key (sym e ∙ h)).says;
+        behind = λ a next h. let n = counted_some s behind_key (sym e ∙ h) in lines_behind next n.there n.behind;
+      }
     where
-      pick : (h : Bool) → numeral_of (cond h (before_of line_feed behind_key) []) ≡ cond h (numeral_of (before_of line_feed behind_key)) number.Malformed
+      pick : (h : Bool) → numeral_of (cond h (before_of line_feed rest) []) ≡ cond h (numeral_of (before_of line_feed rest)) None
       pick true = refl
       pick false = refl
+
+      says : numeral_at s behind_key ≡ numeral_of (value_of key (lines_of (drop at s)))
+      says = sym (rw (value_read key s at f) (pick (has_of line_feed rest)))

@@ -21,4 +21,4 @@ unfoldable pub fault_in : List ℕ → ℕ × ℕ → Span
 fault_in s (number, k) = cond (eqb number (number_of MalformedText)) (line_span s k) (at_the_end s)
 
 abbrev pub fault_of : List ℕ → Span
-fault_of s = fault_in s (given (reading_of s).answer)
+fault_of s = fault_in s (given (reading_of s))

@@ -1,3 +1,4 @@
+pub mod Tasks
 pub mod Words
 pub mod Lines
 pub mod Head

@@ -2,134 +2,118 @@
 #![tactic(auto)]
 
 ghost use Rattle.std.specs.Prelude.{◌≡◌};
+ghost use Rattle.std.proofs.Common.{rules};
 ghost use Rattle.text.specs.Part.{Part};
-ghost use Rattle.job.specs.Areas.{refused_at};
-ghost use Rattle.job.specs.Reading.{reading_of, given};
-ghost use Rattle.job.specs.Fault.{at_the_end, fault_in, fault_of};
+ghost use Rattle.job.specs.Tasks.{tasks, task_place};
+ghost use Rattle.job.specs.Reading.{reading_of};
+ghost use Rattle.job.specs.Fault.{line_span, fault_of};
 
 use curve::Mode;
 use refusal::Refusal;
-use site::{Site, SubArea};
-use text::Numeral;
-use units::{Nutrient, Rate};
+use site::Site;
+use units::{Coded, Nutrient, Rate};
 
 mod areas;
 mod head;
-mod numbers;
+mod values;
 pub mod words;
 
-#[derive(Clone, Copy)]
+#[derive(Clone, Copy, Debug, PartialEq, Eq)]
 pub enum Task {
     Load,
     Credit,
     Size,
 }
 
+impl Coded for Task {
+    ghost cases = { tasks };
+
+    ghost place = { task_place };
+
+    ghost in_order = { Prim.search rules };
+
+    fn cases() -> &'static [Task] {
+        &[Task::Load, Task::Credit, Task::Size]
+    }
+
+    fn place(self) -> usize {
+        self as usize
+    }
+}
+
 // What the first six lines of a job say.
 #[derive(Clone, Copy)]
 pub struct Job {
+    // A number and no enum: one above 8 is refused 4, or 1 where it is written (writable of jobtext).
     pub practice: u64,
     pub nutrient: Nutrient,
     pub mode: Mode,
     pub rate: Rate,
     pub task: Task,
-    // 0 for load, a volume for credit, a target percent for size.
+    // 0 for load, a volume for credit, a target percent for size. It stands beside the task and in no case of it: a load job whose amount
+    // is not 0 reads, and is refused 9 (the theorem LoadJob of calculator).
     pub amount: u64,
 }
 
-// What reading the first six lines finds: the job, or the number of the first bad line.
-#[derive(Clone, Copy)]
-enum HeadRead {
-    Fine(Job),
-    Bad(usize),
+// Why a text does not read, with its line, counted from 1: line 0 is that of a text that is too long.
+#[derive(Clone, Copy, Debug, PartialEq, Eq)]
+pub struct Unread {
+    pub why: Refusal,
+    pub line: usize,
 }
 
-// What reading an area line finds.
-#[derive(Clone, Copy)]
-enum AreaLine {
-    Is(SubArea),
-    Malformed,
+impl Unread {
+    // A line that says nothing.
+    fn malformed(line: usize) -> Unread
+        ensures { result ≡ record { why = Refusal.MalformedText; line = line } }
+    {
+        Unread {
+            why: Refusal::MalformedText,
+            line,
+        }
+    }
 }
 
-// A number read where it stands.
-#[derive(Clone, Copy)]
-struct NumberStep {
-    numeral: Numeral,
-    next: usize,
-}
-
-// The head read, and the place behind it.
-#[derive(Clone, Copy)]
-struct HeadStep {
-    read: HeadRead,
-    next: usize,
-}
-
-// An area line read, and the place behind it.
-#[derive(Clone, Copy)]
-struct AreaStep {
-    read: AreaLine,
-    next: usize,
-}
-
-// The job, or the refusal with its line, counted from 1.
-#[derive(Clone, Copy)]
-pub enum JobAnswer {
-    Granted(Job),
-    Refused { why: Refusal, line: usize },
-}
-
-// The places of a text at which a part of it starts and stops.
+// The places of a text at which a part of it starts and stops. No slice: fault_of gives places, and C is told them; fault cuts the slice.
 #[derive(Clone, Copy)]
 pub struct Span {
     pub from: usize,
     pub to: usize,
 }
 
-// A job text read: the site stands beside the answer, and is empty beside a refusal.
+// A job text read: its job, and the site of its area lines.
 #[derive(Clone, Copy)]
 pub struct Reading {
-    pub answer: JobAnswer,
+    pub job: Job,
     pub site: Site,
 }
 
 // The longest job text, in bytes.
 pub const MOST_BYTES: usize = 4096;
 
-// A refused reading.
-fn refused(line: usize, why: Refusal) -> Reading
-    ensures { result ≡ refused_at line why }
-{
-    Reading {
-        answer: JobAnswer::Refused { why, line },
-        site: site::empty(),
-    }
-}
-
 // The job and the site that a text says, or the refusal with its line.
-pub fn read(text: &[u8]) -> Reading
+#[tactic(auto, using(crate::proofs::Whole::reading_long, crate::proofs::Whole::reading_bad, crate::proofs::Whole::reading_areas))]
+pub fn read(text: &[u8]) -> Result<Reading, Unread>
     ensures { result ≡ reading_of text.now }
 {
     if MOST_BYTES < text.len() {
-        return refused(0, Refusal::MalformedText);
+        return Err(Unread::malformed(0));
     }
-    let head = head::read_head(text);
-    let found = head.read;
-    match found {
-        HeadRead::Bad(line) => refused(line, Refusal::MalformedText),
-        HeadRead::Fine(job) => areas::read_areas(job, text, head.next),
-    }
+    let (job, at) = head::read_head(text)?;
+    areas::read_areas(job, text, at)
 }
 
 // Where the offending line of a text that is refused 1 lies, without its line feed; the end of any other text.
+#[tactic(auto, using(crate::proofs::Faults::fault_granted))]
 pub fn fault_span(text: &[u8]) -> Span
     ensures { result ≡ fault_of text.now }
 {
-    let found = read(text);
-    let answer = found.answer;
-    match answer {
-        JobAnswer::Granted(_) => at_the_end(text),
-        JobAnswer::Refused { why, line } => offending(text, why, line),
+    match read(text) {
+        Err(Unread { why, line }) if why == Refusal::MalformedText => line_span(text, line),
+        _ => Span {
+            from: text.len(),
+            to: text.len(),
+        },
     }
 }
 
@@ -141,22 +125,11 @@ pub fn fault(text: &[u8]) -> &[u8]
     text::part(text, span.from, span.to)
 }
 
-fn at_the_end(text: &[u8]) -> Span
-    ensures { result ≡ at_the_end text.now }
+// Where a line of a text lies, counted from 1, without its line feed; for line 0 the start.
+#[tactic(auto, using(crate::proofs::Faults::line_start, crate::proofs::Faults::line_there))]
+fn line_span(text: &[u8], line: usize) -> Span
+    ensures { result ≡ line_span text.now line }
 {
-    Span {
-        from: text.len(),
-        to: text.len(),
-    }
-}
-
-// Where the offending line of a refused text lies.
-fn offending(text: &[u8], why: Refusal, line: usize) -> Span
-    ensures { result ≡ fault_in text.now (given (JobAnswer.Refused why line)) }
-{
-    if refusal::number(why) != 1 {
-        return at_the_end(text);
-    }
     if line < 1 {
         return Span { from: 0, to: 0 };
     }

@@ -1,5 +1,6 @@
 -- The line of a sub-area: written, it adds the sub-area, and a line whose add is granted is the one that is written.
 -- Assumes nothing.
+use Rattle.std.specs.Prelude.{Some}
 use Prim.Native.Nat.{ℕ, ◌^◌, ◌≤◌, ◌<◌}
 use mathlib.Core.Bool.{true}
 use mathlib.Core.List.{List, ◌∷◌, ◌++◌, append_assoc}
@@ -10,11 +11,9 @@ use lib.ListN.{length, drop, length-append}
 use Rattle.laws.specs.Text.{bytes}
 use Rattle.site.specs.declared.SubArea.{SubArea}
 use Rattle.site.specs.declared.Site.{Site}
-use Rattle.site.specs.declared.Added.{Added}
+use Rattle.site.specs.Adding.{Added}
 use Rattle.site.specs.Parts.{area_of}
 use Rattle.site.specs.Adding.{added}
-use Rattle.text.specs.declared.Found.TheVariants.{At}
-use Rattle.text.specs.declared.Numeral.TheVariants.{Is}
 use Rattle.text.specs.Pieces.{line_feed, comma, space, before_of, after_of, pieces}
 use Rattle.text.specs.Words.{place_of}
 use Rattle.text.specs.Numbers.{most_digits, numeral_of, decimal_of}
@@ -106,7 +105,7 @@ behind v = after_of comma v
 abbrev Written : Site → List ℕ → Added → Type 0
 Written s v a = (p : SubArea) × (a ≡ added s p) × (fields p ≡ v) × (1 ≤ length v)
 
-module _ (s : Site) (v : List ℕ) (l c o a : ℕ) (e1 : place_of land_words (front v) ≡ At l) (e2 : place_of cover_words (front (behind v)) ≡ At c) (e3 : place_of soil_words (front (behind (behind v))) ≡ At o) (e4 : numeral_of (behind (behind (behind v))) ≡ Is a) where
+module _ (s : Site) (v : List ℕ) (l c o a : ℕ) (e1 : place_of land_words (front v) ≡ Some l) (e2 : place_of cover_words (front (behind v)) ≡ Some c) (e3 : place_of soil_words (front (behind (behind v))) ≡ Some o) (e4 : numeral_of (behind (behind (behind v))) ≡ Some a) where
   third : behind (behind v) ≡ front (behind (behind v)) ++ (comma ∷ behind (behind (behind v)))
   third =
       let digit = some_digit a in
@@ -123,7 +122,7 @@ module _ (s : Site) (v : List ℕ) (l c o a : ℕ) (e1 : place_of land_words (fr
       let long = ap length second ∙ length-append (front (behind v)) (comma ∷ behind (behind v)) in
       cut_first comma v (omega arith)
 
-  all_written : Written s v (added_line s (sub_area_from (At l) (At c) (At o) (Is a)))
+  all_written : Written s v (added_line s (sub_area_from (Some l) (Some c) (Some o) (Some a)))
   unfolding sub_area_from added_line
   all_written =
       let long = ap length first ∙ length-append (front v) (comma ∷ behind v) in (

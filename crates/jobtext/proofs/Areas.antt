@@ -1,5 +1,7 @@
 -- The areas of a job text: the lines that are written of sub-areas read as these, and lines that read are those that are written.
 -- Assumes nothing.
+use Rattle.std.specs.Prelude.{Result, Ok, Err}
+use Rattle.refusal.specs.declared.Refusal.{Refusal}
 use Prim.Native.Nat.{ℕ, ◌+◌, ◌^◌, ◌≤◌, ◌<◌}
 use mathlib.Core.Bool.{Bool, true, false, cond, ◌&&◌}
 use mathlib.Core.List.{List, [], ◌∷◌, ◌++◌, flatten, append_assoc, append-nil}
@@ -15,9 +17,7 @@ use Rattle.units.specs.declared.Area.{Area}
 use Rattle.units.specs.Limits.{most_area}
 use Rattle.site.specs.declared.SubArea.{SubArea}
 use Rattle.site.specs.declared.Site.{Site}
-use Rattle.site.specs.declared.Added.{Added}
-use Rattle.site.specs.declared.AreaAnswer.{AreaAnswer}
-use Rattle.site.specs.declared.AreaAnswer.TheVariants as area
+use Rattle.site.specs.Adding.{Added}
 use Rattle.site.specs.Parts.{most_parts, parts_of, area_of, total_area}
 use Rattle.site.specs.Judging.{fits, given}
 use Rattle.site.specs.Adding.{added}
@@ -28,7 +28,7 @@ use Rattle.text.specs.Numbers.{most_digits}
 use Rattle.text.proofs.Joining.{together}
 use Rattle.job.specs.declared.Job.{Job}
 use Rattle.job.specs.declared.Reading.{Reading}
-use Rattle.job.specs.declared.JobAnswer.TheVariants.{Granted}
+use Rattle.job.specs.declared.Unread.{Unread}
 use Rattle.job.specs.Lines.{lines_of}
 use Rattle.job.specs.Areas.{area_in, added_line, refused_at, ended_at, areas_from}
 use Rattle.job.proofs.Telling.{Grants, Adds, areas_read}
@@ -42,14 +42,14 @@ use Rattle.jobtext.proofs.AreaLines.{area_first, area_added, area_written}
 
 -- Behind a line that adds a sub-area, with the add granted, the lines behind it are read on the site with the sub-area.
 reads_on : (job : Job) (line : List ℕ) (ls : List (List ℕ)) (k : ℕ) (s : Site) (p : SubArea) (more : Area) → 1 ≤ length ls
-    → added_line s (area_in (line ∷ ls)) ≡ added s p → (added s p).answer ≡ area.Granted more
+    → added_line s (area_in (line ∷ ls)) ≡ added s p → (added s p).answer ≡ Ok more
     → areas_from job (line ∷ ls) k s ≡ areas_from job ls (k + 1) (added s p).site
 unfolding areas_from
 reads_on job line [] k s p more h e g = absurd (omega arith)
 reads_on job line (next ∷ others) k s p more h e g = rw (e, g)
 
 -- A site with a sub-area added holds it behind the others.
-module _ (s : Site) (total : Area) (b : Built s total) (p : SubArea) (more : Area) (g : (added s p).answer ≡ area.Granted more) where
+module _ (s : Site) (total : Area) (b : Built s total) (p : SubArea) (more : Area) (g : (added s p).answer ≡ Ok more) where
   parts_more : parts_of (added s p).site ≡ parts_of s ++ (p ∷ [])
   parts_more = (granted_holds s p more.0 b.memory (ap given g)).0
 
@@ -74,7 +74,7 @@ module _ (s : Site) (total : Area) (b : Built s total) (p : SubArea) (ps : List 
   first_short : area_of p < 10 ^ most_digits
   first_short = let most = fits_small p first_fits in omega arith
 
-  first_added : (added s p).answer ≡ area.Granted sum
+  first_added : (added s p).answer ≡ Ok sum
   unfolding sum_of
   first_added =
       let places = room.places in
@@ -97,7 +97,7 @@ module _ (s : Site) (total : Area) (b : Built s total) (p : SubArea) (ps : List 
 
 -- Sub-areas that are written are read behind a site that has room for them: the job, and the site with these stored behind its own.
 pub areas_back : (job : Job) (ps : List SubArea) (k : ℕ) (s : Site) (total : Area) → Built s total → RoomLeft s total ps → 1 ≤ s.count + length ps
-    → areas_from job (lines_of (areas_text ps)) k s ≡ record { answer = Granted job; site = stored_all s ps }
+    → areas_from job (lines_of (areas_text ps)) k s ≡ Ok (record { job = job; site = stored_all s ps })
 unfolding areas_from areas_text flatten pieces stored_all
 areas_back job [] k s total b room some = rw (le-leb 1 s.count (omega arith))
 areas_back job (p ∷ ps) k s total b room some =
@@ -109,14 +109,15 @@ areas_back job (p ∷ ps) k s total b room some =
       area_first p (areas_text ps),
       reads_on job _ (lines_of (areas_text ps)) k s p more (some_line (areas_text ps)) (area_added p (areas_text ps) s (first_short s total b p ps room)) g,
     )
-    (later ∙ ap (λ (a : Added). record { answer = Granted job; site = stored_all a.site ps }) (stores s p more g))
+    (later ∙ ap (λ (a : Added). Ok (record { job = job; site = stored_all a.site ps })) (stores s p more g))
 
 -- What lines that read tell: the job, a site that is built, and the bytes, which are those of the sub-areas that they add.
-pub record AreasTold (job : Job) (s : Site) (ls : List (List ℕ)) (r : Reading) : Type 0 where
-  pub answer : r.answer ≡ Granted job
-  pub built : (total : Area) × Built r.site total
-  pub some : 1 ≤ r.site.count
-  pub text : areas_text (parts_of s) ++ together line_feed ls ≡ areas_text (parts_of r.site)
+pub record AreasTold (job : Job) (s : Site) (ls : List (List ℕ)) (r : Result Reading Unread) : Type 0 where
+  pub site : Site
+  pub read : r ≡ Ok (record { job = job; site = site })
+  pub built : (total : Area) × Built site total
+  pub some : 1 ≤ site.count
+  pub text : areas_text (parts_of s) ++ together line_feed ls ≡ areas_text (parts_of site)
 
 text_more : (ps : List SubArea) (p : SubArea) → areas_text (ps ++ (p ∷ [])) ≡ areas_text ps ++ area_text p
 unfolding areas_text flatten
@@ -124,7 +125,7 @@ text_more [] p = append-nil (area_text p)
 text_more (q ∷ ps) p = ap (λ (t : List ℕ). area_text q ++ t) (text_more ps p) ∙ sym (append_assoc (area_text q) (areas_text ps) (area_text p))
 
 ended_told : (job : Job) (ls : List (List ℕ)) (rest : List ℕ) (k : ℕ) (s : Site) (total : Area) → Built s total → together line_feed ls ≡ rest
-    → Grants (ended_at job rest k s).answer → AreasTold job s ls (ended_at job rest k s)
+    → Grants (ended_at job rest k s) → AreasTold job s ls (ended_at job rest k s)
 ended_told job ls rest k s total b last = at (eqb (length rest) 0 && leb 1 s.count) refl
   where
     empty : (t : List ℕ) → length t ≡ 0 → t ≡ []
@@ -132,21 +133,22 @@ ended_told job ls rest k s total b last = at (eqb (length rest) 0 && leb 1 s.cou
     empty (x ∷ t) h = absurd (omega arith)
 
     at : (e : Bool) → (eqb (length rest) 0 && leb 1 s.count) ≡ e
-        → Grants (cond e (record { answer = Granted job; site = s }) (refused_at k MalformedText)).answer
-        → AreasTold job s ls (cond e (record { answer = Granted job; site = s }) (refused_at k MalformedText))
+        → Grants (cond e (Ok (record { job = job; site = s })) (refused_at k MalformedText))
+        → AreasTold job s ls (cond e (Ok (record { job = job; site = s })) (refused_at k MalformedText))
     at true e g =
         let none = eqb-true (length rest) 0 (and_left (eqb (length rest) 0) (leb 1 s.count) e) in
         record {
-          answer = refl;
+          site = s;
+          read = refl;
           built = (total, b);
           some = leb-true 1 s.count (and_right (eqb (length rest) 0) (leb 1 s.count) e);
           text = rw (last, empty rest none) (append-nil (areas_text (parts_of s)));
         }
     at false e g = absurd g
 
-adds_granted : (x : AreaAnswer) → Adds x → (more : Area) × (x ≡ area.Granted more)
-adds_granted (area.Granted more) g = (more, refl)
-adds_granted (area.Refused why) g = absurd g
+adds_granted : (x : Result Area Refusal) → Adds x → (more : Area) × (x ≡ Ok more)
+adds_granted (Ok more) g = (more, refl)
+adds_granted (Err why) g = absurd g
 
 line_told : (job : Job) (line next : List ℕ) (others : List (List ℕ)) (k : ℕ) (s : Site) (total : Area) → Built s total
     → Adds (added_line s (area_in (line ∷ next ∷ others))).answer
@@ -159,7 +161,8 @@ line_told job line next others k s total b g later =
     let told = later (added s p).site a.0 (ap (λ (x : Added). x.site) w.1) (built_more s total b p a.0 a.1) in
     rw (reads_on job line (next ∷ others) k s p a.0 (omega arith) w.1 a.1)
     (record {
-      answer = told.answer;
+      site = told.site;
+      read = told.read;
       built = told.built;
       some = told.some;
       text =
@@ -170,7 +173,7 @@ line_told job line next others k s total b g later =
           ∙ told.text;
     })
 
-pub areas_told : (job : Job) (ls : List (List ℕ)) (k : ℕ) (s : Site) → Grants (areas_from job ls k s).answer
+pub areas_told : (job : Job) (ls : List (List ℕ)) (k : ℕ) (s : Site) → Grants (areas_from job ls k s)
     → (total : Area) → Built s total → AreasTold job s ls (areas_from job ls k s)
 unfolding areas_from together
 areas_told job =

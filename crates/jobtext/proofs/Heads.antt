@@ -1,5 +1,6 @@
 -- The head of a job text: the six lines that are written read as the job, and six lines that read are those that are written.
 -- Assumes nothing.
+use Rattle.std.specs.Prelude.{Some, Result}
 use Prim.Native.Nat.{ℕ, ◌+◌, ◌^◌, ◌≤◌, ◌<◌}
 use mathlib.Core.Bool.{true}
 use mathlib.Core.List.{List, ◌∷◌, ◌++◌, flatten, map}
@@ -11,8 +12,6 @@ use lib.Seq.{drop-drop}
 use Rattle.laws.specs.Text.{bytes}
 use Rattle.site.specs.declared.SubArea.{SubArea}
 use Rattle.site.specs.Parts.{empty_site}
-use Rattle.text.specs.declared.Found.TheVariants.{At}
-use Rattle.text.specs.declared.Numeral.TheVariants.{Is}
 use Rattle.text.specs.Pieces.{line_feed, space, pieces}
 use Rattle.text.specs.Words.{place_of}
 use Rattle.text.specs.Numbers.{most_digits, numeral_of, decimal_of}
@@ -23,6 +22,7 @@ use Rattle.writing.specs.Lines.{line_with, line_of}
 use Rattle.writing.proofs.Digits.{some_digit}
 use Rattle.job.specs.declared.Job.{Job}
 use Rattle.job.specs.declared.Reading.{Reading}
+use Rattle.job.specs.declared.Unread.{Unread}
 use Rattle.job.specs.Words.{practice_words, nutrient_words, mode_words, task_words, nutrient_at, mode_at, task_at, nutrient_place, mode_place, task_place}
 use Rattle.job.specs.Lines.{lines_of, value_of}
 use Rattle.job.specs.Head.{word_in, number_in, head_from, head_of}
@@ -44,11 +44,11 @@ number_first key n f t = first_line key (decimal_of n) f (digits_free line_feed 
 
 -- what they say where lines stand behind them
 word_says : (key words : List ℕ) (k : ℕ) (ls : List (List ℕ)) → 1 ≤ length ls → FoundAt words k
-    → place_of words (value_of key ((key ++ word_at words k) ∷ ls)) ≡ At k
+    → place_of words (value_of key ((key ++ word_at words k) ∷ ls)) ≡ Some k
 word_says key words k ls h e = ap (place_of words) (own_value key (word_at words k) ls h) ∙ e
 
 number_says : (key : List ℕ) (n : ℕ) (ls : List (List ℕ)) → 1 ≤ length ls → n < 10 ^ most_digits
-    → numeral_of (value_of key ((key ++ decimal_of n) ∷ ls)) ≡ Is n
+    → numeral_of (value_of key ((key ++ decimal_of n) ∷ ls)) ≡ Some n
 number_says key n ls h l = ap numeral_of (own_value key (decimal_of n) ls h) ∙ written_reads_back n l
 
 -- the lines of a text that is written
@@ -108,7 +108,7 @@ module _ (j : Job) (ps : List SubArea) where
 
 -- What a head that reads tells: the job, whose areas are read behind it, and the bytes, which are those of the job's text where the
 -- bytes behind the head are those of some sub-areas.
-pub record HeadTold (lines : List (List ℕ)) (r : Reading) : Type 0 where
+pub record HeadTold (lines : List (List ℕ)) (r : Result Reading Unread) : Type 0 where
   pub job : Job
   pub read : r ≡ areas_from job (drop head_lines lines) (head_lines + 1) empty_site
   pub practice : job.practice ≤ 8
@@ -124,7 +124,7 @@ module _ (lines : List (List ℕ)) where
       line_written key (drop k lines) s.0
       ∙ (λ z. line_with key (sym s.1 z) ++ together line_feed (drop-drop 1 k lines z))
 
-  number_line_lem : (k : ℕ) (key : List ℕ) {n : ℕ} → number_in lines k key ≡ Is n
+  number_line_lem : (k : ℕ) (key : List ℕ) {n : ℕ} → number_in lines k key ≡ Some n
       → together line_feed (drop k lines) ≡ line_of key n ++ together line_feed (drop (k + 1) lines)
   number_line_lem k key {n} e =
       let d = (number_digits (value_of key (drop k lines)) e).0 in
@@ -134,13 +134,13 @@ module _ (lines : List (List ℕ)) where
       ∙ (λ i. line_with key (sym d i) ++ together line_feed (drop-drop 1 k lines i))
 
   told : (p n m r t a : ℕ)
-      → word_in lines 0 (bytes "practice=") practice_words ≡ At p
-      → word_in lines 1 (bytes "nutrient=") nutrient_words ≡ At n
-      → word_in lines 2 (bytes "mode=") mode_words ≡ At m
-      → number_in lines 3 (bytes "rate=") ≡ Is r
-      → word_in lines 4 (bytes "task=") task_words ≡ At t
-      → number_in lines 5 (bytes "amount=") ≡ Is a
-      → HeadTold lines (behind_head (head_from (At p) (At n) (At m) (Is r) (At t) (Is a)) lines)
+      → word_in lines 0 (bytes "practice=") practice_words ≡ Some p
+      → word_in lines 1 (bytes "nutrient=") nutrient_words ≡ Some n
+      → word_in lines 2 (bytes "mode=") mode_words ≡ Some m
+      → number_in lines 3 (bytes "rate=") ≡ Some r
+      → word_in lines 4 (bytes "task=") task_words ≡ Some t
+      → number_in lines 5 (bytes "amount=") ≡ Some a
+      → HeadTold lines (behind_head (head_from (Some p) (Some n) (Some m) (Some r) (Some t) (Some a)) lines)
   unfolding head_from behind_head job_text flatten
   told p n m r t a e1 e2 e3 e4 e5 e6 =
       let practice = practice_written (value_of (bytes "practice=") lines) e1 in
@@ -164,7 +164,7 @@ module _ (lines : List (List ℕ)) where
             (number_line_lem 5 (bytes "amount=") e6 ∙ ap (λ (u : List ℕ). line_of (bytes "amount=") a ++ u) f)))));
       }
 
-  pub head_told : Grants (behind_head (head_of lines) lines).answer → HeadTold lines (behind_head (head_of lines) lines)
+  pub head_told : Grants (behind_head (head_of lines) lines) → HeadTold lines (behind_head (head_of lines) lines)
   unfolding head_of
   head_told g =
       head_reads

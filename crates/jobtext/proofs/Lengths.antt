@@ -9,6 +9,8 @@ use native.Mathlib.Omega.{arith}
 use borrow.Author.Tests.{leb-true}
 use lib.Dec.{leb, lit≤}
 use lib.ListN.{length, length-append, length-take}
+use Rattle.std.proofs.lemmas.List.Recursion.{is_sum_by}
+use Rattle.std.proofs.lemmas.List.Sums.{sum_by-cons}
 use Rattle.laws.specs.Sum.{sum_of}
 use Rattle.laws.proofs.And.{and_left, and_right}
 use Rattle.laws.proofs.Order.{lt_or_le}
@@ -25,7 +27,7 @@ use Rattle.site.specs.Parts.{parts_of, area_of, total_area}
 use Rattle.site.specs.Judging.{fits, judged, given}
 use Rattle.site.specs.Promises.{all_fit}
 use Rattle.site.proofs.Promises.{fine_exactly}
-use Rattle.text.specs.Pieces.{joined, pieces}
+use Rattle.text.specs.Pieces.{space, joined, pieces}
 use Rattle.text.specs.Numbers.{most_digits, decimal_of}
 use Rattle.job.specs.declared.Job.{Job}
 use Rattle.job.specs.Words.{practice_words, nutrient_words, mode_words, task_words, land_words, cover_words, soil_words, nutrient_place, mode_place, task_place, land_place, cover_place, soil_place}
@@ -33,8 +35,8 @@ use Rattle.writing.specs.Lines.{line_with}
 use Rattle.writing.proofs.Digits.{few_digits_lem}
 use Rattle.jobtext.specs.Text.{word_at, area_text, head_texts, job_text, longest}
 use Rattle.jobtext.specs.Promises.{NeverTooLong}
-use Rattle.jobtext.specs.Inner.{head_text, areas_text}
-use Rattle.jobtext.proofs.Rows.{practice_rows, mode_rows, task_rows, land_rows, soil_rows, practice_row, mode_row, task_row, land_row, soil_row, row_short}
+use Rattle.jobtext.specs.Inner.{head_text, areas_text, areas_length}
+use Rattle.jobtext.proofs.Short.{word_short}
 
 -- the word of each nutrient has one letter, and that of each cover three
 nutrient_long : (n : Nutrient) → length (word_at nutrient_words (nutrient_place n)) ≡ 1
@@ -56,14 +58,11 @@ pub area_long : (p : SubArea) → length (area_text p) ≡ 12 + length (word_at 
 unfolding area_text line_with
 area_long p = let c = cover_long p.cover in simp length-append (omega arith)
 
--- the lines of some sub-areas, one behind the other
-abbrev pub area_length : SubArea → ℕ
-area_length p = length (area_text p)
-
-pub areas_long : (ps : List SubArea) → length (areas_text ps) ≡ sum_of area_length ps
-unfolding areas_text flatten sum_of
-areas_long [] = refl
-areas_long (p ∷ ps) = let h = areas_long ps in let l = length-append (area_text p) (areas_text ps) in omega arith
+-- The lengths of the lines of some sub-areas, added up, are the length of all of them.
+pub areas_long : (ps : List SubArea) → length (areas_text ps) ≡ areas_length ps
+unfolding areas_text flatten
+areas_long =
+    is_sum_by (λ (ps : List SubArea). length (areas_text ps)) (λ (p : SubArea). length (area_text p)) refl (λ p ps. length-append (area_text p) (areas_text ps))
 
 -- The text is its first six lines and those of its sub-areas.
 pub job_split : (j : Job) (ps : List SubArea) → job_text j ps ≡ head_text j ++ areas_text ps
@@ -74,21 +73,26 @@ job_split j ps = joined_texts (head_texts j) (map area_text ps)
     joined_texts [] ys = refl
     joined_texts (x ∷ xs) ys = ap (λ (t : List ℕ). x ++ t) (joined_texts xs ys) ∙ sym (append_assoc x (flatten xs) (flatten ys))
 
--- no word is longer than its row
+-- the longest word of each list
 practice_short : (k : ℕ) → length (word_at practice_words k) ≤ 9
-practice_short k = row_short 9 practice_rows k (ap length (sym (practice_row k)))
+unfolding pieces joined
+practice_short k = word_short 9 (pieces space practice_words) k refl
 
 mode_short : (k : ℕ) → length (word_at mode_words k) ≤ 4
-mode_short k = row_short 4 mode_rows k (ap length (sym (mode_row k)))
+unfolding pieces joined
+mode_short k = word_short 4 (pieces space mode_words) k refl
 
 task_short : (k : ℕ) → length (word_at task_words k) ≤ 6
-task_short k = row_short 6 task_rows k (ap length (sym (task_row k)))
+unfolding pieces joined
+task_short k = word_short 6 (pieces space task_words) k refl
 
 land_short : (k : ℕ) → length (word_at land_words k) ≤ 4
-land_short k = row_short 4 land_rows k (ap length (sym (land_row k)))
+unfolding pieces joined
+land_short k = word_short 4 (pieces space land_words) k refl
 
 soil_short : (k : ℕ) → length (word_at soil_words k) ≤ 2
-soil_short k = row_short 2 soil_rows k (ap length (sym (soil_row k)))
+unfolding pieces joined
+soil_short k = word_short 2 (pieces space soil_words) k refl
 
 head_short : (j : Job) → j.rate.0 < 10 ^ most_digits → j.amount < 10 ^ most_digits → length (head_text j) ≤ 94
 head_short j r a =
@@ -118,11 +122,12 @@ pub fits_small : (p : SubArea) → fits p ≡ true → area_of p ≤ most_area
 fits_small p f = leb-true (area_of p) most_area (and_right (leb 1 (area_of p)) (leb (area_of p) most_area) (and_left (leb 1 (area_of p) && leb (area_of p) most_area) (suits p.cover p.soil) f))
 
 -- So the lines of sub-areas that fit are held by how many they are and by their total area.
-areas_short : (ps : List SubArea) → all_fit ps ≡ true → 90_000 * sum_of area_length ps ≤ 2_060_000 * length ps + total_area ps
+areas_short : (ps : List SubArea) → all_fit ps ≡ true → 90_000 * areas_length ps ≤ 2_060_000 * length ps + total_area ps
 unfolding sum_of all_fit
 areas_short [] f = omega arith
 areas_short (p ∷ ps) f =
     let later = areas_short ps (and_right (fits p) (all_fit ps) f) in
+    let sum = sum_by-cons (λ (p : SubArea). length (area_text p)) p ps in
     let one = area_long p in
     let l = land_short (land_place p.land) in
     let s = soil_short (soil_place p.soil) in

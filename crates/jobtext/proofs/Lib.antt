@@ -1,7 +1,6 @@
-pub mod Rows
+pub mod Short
 pub mod Lengths
 pub mod Sizes
-pub mod Putting
 pub mod Pieces
 pub mod Writing
 pub mod Words

@@ -1,5 +1,6 @@
 -- The promises of a written job, proved: what writing tries, what it leaves in the buffer, and the longest text.
 -- Assumes nothing.
+use Rattle.std.specs.Prelude.{Result, Ok, Err, ℕ}
 use Prim.Native.Nat.{ℕ, ◌≤◌, ◌<◌}
 use mathlib.Core.Bool.{Bool, true, false, not}
 use mathlib.Core.List.{List, flatten}
@@ -16,8 +17,6 @@ use Rattle.refusal.specs.Refusal.{number_of, granted}
 use Rattle.refusal.proofs.Numbers.{refusal_not_granted}
 use Rattle.units.specs.declared.Area.{Area}
 use Rattle.site.specs.declared.Site.{Site}
-use Rattle.site.specs.declared.AreaAnswer.{AreaAnswer}
-use Rattle.site.specs.declared.AreaAnswer.TheVariants as area
 use Rattle.site.specs.Parts.{most_parts, parts_of}
 use Rattle.site.specs.Judging.{judged_from, rises_to, judged, given as given_area}
 use Rattle.site.specs.Promises.{InMemory}
@@ -25,8 +24,6 @@ use Rattle.site.proofs.Promises.{full_exactly, first_refused}
 use Rattle.text.specs.Pieces.{joined, pieces}
 use Rattle.text.specs.Numbers.{decimal_from, decimal_of}
 use Rattle.job.specs.declared.Job.{Job}
-use Rattle.writing.specs.declared.Written.{Written}
-use Rattle.writing.specs.declared.Written.TheVariants.{Granted, Refused}
 use Rattle.writing.specs.Lines.{line_with}
 use Rattle.writing.specs.Writing.{buffer_of, written_given}
 use Rattle.writing.proofs.Writing.{granted_length, buffer_holds}
@@ -56,10 +53,10 @@ longest_reached = (
 
 -- How a writing ends: with the record's refusal, with 1 where a test fails, with 13, or with the text in the buffer.
 data Ending (buf : List ℕ) (j : Job) (s : Site) : Type 0 where
-  unfit : (why : Refusal) → judged s ≡ area.Refused why → job_written buf j s ≡ Refused why → job_buffer buf j s ≡ buf → Ending buf j s
-  failed : (total : Area) → judged s ≡ area.Granted total → passes j s.count ≡ false → job_written buf j s ≡ Refused MalformedText → job_buffer buf j s ≡ buf → Ending buf j s
-  short : (total : Area) → judged s ≡ area.Granted total → Tested j s.count → length buf < length (job_text j (parts_of s)) → job_written buf j s ≡ Refused BufferTooShort → job_buffer buf j s ≡ buf → Ending buf j s
-  put : (total : Area) → judged s ≡ area.Granted total → Tested j s.count → length (job_text j (parts_of s)) ≤ length buf → job_written buf j s ≡ Granted (length (job_text j (parts_of s))) → job_buffer buf j s ≡ buffer_of buf (job_text j (parts_of s)) → Ending buf j s
+  unfit : (why : Refusal) → judged s ≡ Err why → job_written buf j s ≡ Err why → job_buffer buf j s ≡ buf → Ending buf j s
+  failed : (total : Area) → judged s ≡ Ok total → passes j s.count ≡ false → job_written buf j s ≡ Err MalformedText → job_buffer buf j s ≡ buf → Ending buf j s
+  short : (total : Area) → judged s ≡ Ok total → Tested j s.count → length buf < length (job_text j (parts_of s)) → job_written buf j s ≡ Err BufferTooShort → job_buffer buf j s ≡ buf → Ending buf j s
+  put : (total : Area) → judged s ≡ Ok total → Tested j s.count → length (job_text j (parts_of s)) ≤ length buf → job_written buf j s ≡ Ok (length (job_text j (parts_of s))) → job_buffer buf j s ≡ buffer_of buf (job_text j (parts_of s)) → Ending buf j s
 
 ending : (buf : List ℕ) (j : Job) (s : Site) → Ending buf j s
 ending buf j s = by_record (judged s) refl
@@ -67,7 +64,7 @@ ending buf j s = by_record (judged s) refl
     text : List ℕ
     text = job_text j (parts_of s)
 
-    by_lengths : (total : Area) → judged s ≡ area.Granted total → passes j s.count ≡ true → (length buf < length text) ⊎ (length text ≤ length buf) → Ending buf j s
+    by_lengths : (total : Area) → judged s ≡ Ok total → passes j s.count ≡ true → (length buf < length text) ⊎ (length text ≤ length buf) → Ending buf j s
     by_lengths total f p (inl h) =
         short total f (tested j s.count p) h
         (sym (short_stops buf j s refl f refl (ap not p) refl (lt-ltb (length buf) (length text) h)))
@@ -77,14 +74,14 @@ ending buf j s = by_record (judged s) refl
         (sym (put_answers buf j s refl f refl (ap not p) refl (le-ltb (length buf) (length text) h) (granted_length buf text h)))
         (sym (put_holds buf j s refl f refl (ap not p) refl (le-ltb (length buf) (length text) h) refl))
 
-    by_tests_lem : (total : Area) → judged s ≡ area.Granted total → (b : Bool) → passes j s.count ≡ b → Ending buf j s
+    by_tests_lem : (total : Area) → judged s ≡ Ok total → (b : Bool) → passes j s.count ≡ b → Ending buf j s
     by_tests_lem total f true p = by_lengths total f p (lt_or_le (length buf) (length text))
     by_tests_lem total f false p =
         failed total f p (sym (tests_stop buf j s refl f refl (ap not p))) (sym (tests_keep buf j s refl f refl (ap not p)))
 
-    by_record : (x : AreaAnswer) → judged s ≡ x → Ending buf j s
-    by_record (area.Refused why) f = unfit why f (sym (record_stops buf j s refl f)) (sym (record_keeps buf j s refl f))
-    by_record (area.Granted total) f = by_tests_lem total f (passes j s.count) refl
+    by_record : (x : Result Area Refusal) → judged s ≡ x → Ending buf j s
+    by_record (Err why) f = unfit why f (sym (record_stops buf j s refl f)) (sym (record_keeps buf j s refl f))
+    by_record (Ok total) f = by_tests_lem total f (passes j s.count) refl
 
 pub refused_keeps : RefusedKeeps
 refused_keeps buf j s refuses = told (ending buf j s)
@@ -93,7 +90,7 @@ refused_keeps buf j s refuses = told (ending buf j s)
     told (unfit why f w b) = b
     told (failed total f p w b) = b
     told (short total f t h w b) = b
-    told (put total f t h w b) = absurd (refuses (ap (λ (x : Written). (written_given x).0) w))
+    told (put total f t h w b) = absurd (refuses (ap (λ (x : Result ℕ Refusal). (written_given x).0) w))
 
 pub granted_holds : GrantedHolds
 granted_holds buf j s n e = told (ending buf j s)
@@ -104,8 +101,8 @@ granted_holds buf j s n e = told (ending buf j s)
     Holds : Type 0
     Holds = (take n (job_buffer buf j s) ≡ text) × (drop n (job_buffer buf j s) ≡ drop n buf) × (length (job_buffer buf j s) ≡ length buf)
 
-    never : (why : Refusal) → job_written buf j s ≡ Refused why → ⊥
-    never why w = refusal_not_granted why (ap (λ (x : Written). (written_given x).0) (sym w) ∙ ap (λ (g : ℕ × ℕ). g.0) e)
+    never : (why : Refusal) → job_written buf j s ≡ Err why → ⊥
+    never why w = refusal_not_granted why (ap (λ (x : Result ℕ Refusal). (written_given x).0) (sym w) ∙ ap (λ (g : ℕ × ℕ). g.0) e)
 
     told : Ending buf j s → Holds
     told (unfit why f w b) = absurd (never why w)
@@ -128,12 +125,12 @@ pub longest_suffices : LongestSuffices
 longest_suffices buf j s h e = told (ending buf j s)
   where
     told : Ending buf j s → ⊥
-    told (unfit why f w b) = never_too_short s (ap (λ (x : AreaAnswer). (given_area x).0) f ∙ ap (λ (x : Written). (written_given x).0) (sym w) ∙ e)
-    told (failed total f p w b) = let z = ap (λ (x : Written). (written_given x).0) (sym w) ∙ e in omega arith
+    told (unfit why f w b) = never_too_short s (ap (λ (x : Result Area Refusal). (given_area x).0) f ∙ ap (λ (x : Result ℕ Refusal). (written_given x).0) (sym w) ∙ e)
+    told (failed total f p w b) = let z = ap (λ (x : Result ℕ Refusal). (written_given x).0) (sym w) ∙ e in omega arith
     told (short total f t l w b) =
-        let most = job_short j s (ap (λ (x : AreaAnswer). (given_area x).0) f) t.rate t.amount in
+        let most = job_short j s (ap (λ (x : Result Area Refusal). (given_area x).0) f) t.rate t.amount in
         omega arith
-    told (put total f t l w b) = let z = ap (λ (x : Written). (written_given x).0) (sym w) ∙ e in omega arith
+    told (put total f t l w b) = let z = ap (λ (x : Result ℕ Refusal). (written_given x).0) (sym w) ∙ e in omega arith
 
 -- A job and a record that pass every test are writable, and the other way about.
 module _ (j : Job) (s : Site) where
@@ -156,7 +153,7 @@ write_order buf j s m = told (ending buf j s)
 
     told : Ending buf j s → WriteTries buf j s (written_given (job_written buf j s))
     told (unfit why f w b) =
-        let number : (given_area (judged s)).0 ≡ number_of why = ap (λ (x : AreaAnswer). (given_area x).0) f in
+        let number : (given_area (judged s)).0 ≡ number_of why = ap (λ (x : Result Area Refusal). (given_area x).0) f in
         let no : (given_area (judged s)).0 ≡ granted → ⊥ = λ g. refusal_not_granted why (sym number ∙ g) in
         record {
           refused = λ h. ap written_given w ∙ (λ i. (sym number i, 0));
@@ -166,13 +163,13 @@ write_order buf j s m = told (ending buf j s)
         }
     told (failed total f p w b) =
         record {
-          refused = λ h. absurd (h (ap (λ (x : AreaAnswer). (given_area x).0) f));
+          refused = λ h. absurd (h (ap (λ (x : Result Area Refusal). (given_area x).0) f));
           malformed = λ g h. ap written_given w;
           short = λ x h. absurd (fails_not x p);
           written = λ x h. absurd (fails_not x p);
         }
     told (short total f t l w b) =
-        let fine = ap (λ (x : AreaAnswer). (given_area x).0) f in
+        let fine = ap (λ (x : Result Area Refusal). (given_area x).0) f in
         record {
           refused = λ h. absurd (h fine);
           malformed = λ g h. absurd (h (tested_writable j s m fine t));
@@ -180,7 +177,7 @@ write_order buf j s m = told (ending buf j s)
           written = λ x h. absurd (omega arith);
         }
     told (put total f t l w b) =
-        let fine = ap (λ (x : AreaAnswer). (given_area x).0) f in
+        let fine = ap (λ (x : Result Area Refusal). (given_area x).0) f in
         record {
           refused = λ h. absurd (h fine);
           malformed = λ g h. absurd (h (tested_writable j s m fine t));
@@ -200,7 +197,7 @@ granted_exactly buf j s n m = (only (ending buf j s), there)
     only (short total f t h w b) e = absurd (refusal_not_granted BufferTooShort (ap (λ (g : ℕ × ℕ). g.0) (sym (ap written_given w) ∙ e)))
     only (put total f t h w b) e =
         let long : length text ≡ n = ap (λ (g : ℕ × ℕ). g.1) (sym (ap written_given w) ∙ e) in
-        (tested_writable j s m (ap (λ (x : AreaAnswer). (given_area x).0) f) t, long, rw (← long) h)
+        (tested_writable j s m (ap (λ (x : Result Area Refusal). (given_area x).0) f) t, long, rw (← long) h)
 
     there : Writable j s × (length text ≡ n) × (n ≤ length buf) → written_given (job_written buf j s) ≡ (granted, n)
     there p = (write_order buf j s m).written p.0 (rw p.1 p.2) ∙ (λ i. (granted, p.1 i))

@@ -1,5 +1,8 @@
 -- Texts that are written and texts that read are the same: what is written reads back, and what reads is written back byte for byte.
 -- Assumes nothing.
+use Rattle.std.specs.Prelude.{Result, Ok, Err}
+use Rattle.refusal.specs.declared.Refusal.{Refusal}
+use Rattle.units.specs.declared.Area.{Area}
 use Prim.Native.Nat.{ℕ, ◌+◌, ◌≤◌}
 use mathlib.Core.List.{List, flatten}
 use mathlib.Core.Path.{◌≡◌, refl, sym, ◌∙◌, ap}
@@ -10,7 +13,6 @@ use lib.Seq.{length-take-le}
 use Rattle.refusal.specs.Refusal.{granted}
 use Rattle.refusal.proofs.Numbers.{refusal_not_granted}
 use Rattle.site.specs.declared.Site.{Site}
-use Rattle.site.specs.declared.AreaAnswer.{AreaAnswer}
 use Rattle.site.specs.Parts.{parts_of, empty_site}
 use Rattle.site.specs.Judging.{judged, given as given_area}
 use Rattle.site.proofs.Judging.{judged_has}
@@ -18,9 +20,8 @@ use Rattle.site.proofs.Promises.{given_some}
 use Rattle.text.specs.Pieces.{line_feed}
 use Rattle.text.proofs.Joining.{together, pieces_together}
 use Rattle.job.specs.declared.Job.{Job}
-use Rattle.job.specs.declared.JobAnswer.{JobAnswer}
-use Rattle.job.specs.declared.JobAnswer.TheVariants.{Granted, Refused}
 use Rattle.job.specs.declared.Reading.{Reading}
+use Rattle.job.specs.declared.Unread.{Unread}
 use Rattle.job.specs.Lines.{lines_of}
 use Rattle.job.specs.Reading.{most_bytes, head_lines, reading_of, given}
 use Rattle.job.proofs.Telling.{Grants, lines_read}
@@ -43,7 +44,7 @@ module _ (j : Job) (s : Site) (w : Writable j s) where
       let places = w.memory.parts in
       length-take-le s.count s.parts (omega arith)
 
-  read_as : length (job_text j (parts_of s)) ≤ most_bytes → reading_of (job_text j (parts_of s)) ≡ record { answer = Granted j; site = site_of (parts_of s) }
+  read_as : length (job_text j (parts_of s)) ≤ most_bytes → reading_of (job_text j (parts_of s)) ≡ Ok (record { job = j; site = site_of (parts_of s) })
   unfolding reading_of areas_text
   read_as short =
       let fine = given_some (judged s) w.fine in
@@ -56,24 +57,27 @@ module _ (j : Job) (s : Site) (w : Writable j s) where
       rw (le-ltb most_bytes (length (job_text j (parts_of s))) short, head_read j (parts_of s) w.practice w.rate w.amount)
       (areas_back j (parts_of s) (head_lines + 1) empty_site (record { 0 = 0 }) built_none (record { fit = has.1; places = omega arith; within = omega arith }) (omega arith))
 
+one_reading : {r q : Reading} → ◌≡◌ {A = Result Reading Unread} (Ok r) (Ok q) → r ≡ q
+one_reading e = cc
+
 -- Head and areas tell its bytes.
 pub writes_back : WritesBack
 unfolding areas_text flatten
 writes_back text j s e =
-    let g : Grants (reading_of text).answer = rw e tt in
+    let g : Grants (reading_of text) = rw e tt in
     let read = lines_read text g in
     let head = head_told (lines_of text) (rw read at g) in
     let whole = read ∙ head.read in
     let areas = areas_told head.job (drop head_lines (lines_of text)) (head_lines + 1) empty_site (rw whole at g) (record { 0 = 0 }) built_none in
-    let site = ap (λ (r : Reading). r.site) (sym whole ∙ e) in
-    let answer = sym areas.answer ∙ ap (λ (r : Reading). r.answer) (sym whole ∙ e) in
-    let job : head.job ≡ j = cc in
+    let same = one_reading (sym areas.read ∙ sym whole ∙ e) in
+    let site = ap (λ (r : Reading). r.site) same in
+    let job = ap (λ (r : Reading). r.job) same in
     let built = rw site at areas.built in
     let bytes : together line_feed (drop head_lines (lines_of text)) ≡ areas_text (parts_of s) = areas.text ∙ ap (λ (t : Site). areas_text (parts_of t)) site in (
       ap (λ (k : Job). job_text k (parts_of s)) (sym job) ∙ sym (head.text (parts_of s) bytes) ∙ pieces_together line_feed text,
       record {
         memory = built.1.memory;
-        fine = ap (λ (x : AreaAnswer). (given_area x).0) built.1.fine;
+        fine = ap (λ (x : Result Area Refusal). (given_area x).0) built.1.fine;
         some = rw site at areas.some;
         practice = rw job at head.practice;
         rate = rw job at head.rate;
@@ -81,10 +85,10 @@ writes_back text j s e =
       },
     )
 
--- the job of an answer that is granted
-granted_job : (x : JobAnswer) → (given x).0 ≡ granted → (j : Job) × (x ≡ Granted j)
-granted_job (Granted j) e = (j, refl)
-granted_job (Refused why k) e = absurd (refusal_not_granted why e)
+-- what is read where it is granted
+granted_reading : (x : Result Reading Unread) → (given x).0 ≡ granted → (r : Reading) × (x ≡ Ok r)
+granted_reading (Ok r) e = (r, refl)
+granted_reading (Err u) e = absurd (refusal_not_granted u.why e)
 
 pub reads_back : ReadsBack
 reads_back j s w =
@@ -101,22 +105,20 @@ reads_back j s w =
 pub written_texts_read : WrittenTextsRead
 written_texts_read text = (only, there)
   where
-    only : (given (reading_of text).answer).0 ≡ granted → (j : Job) × (s : Site) × Writable j s × (job_text j (parts_of s) ≡ text)
+    only : (given (reading_of text)).0 ≡ granted → (j : Job) × (s : Site) × Writable j s × (job_text j (parts_of s) ≡ text)
     only e =
-        let j = granted_job (reading_of text).answer e in
-        let back = writes_back text j.0 (reading_of text).site (λ i. record { answer = j.1 i; site = (reading_of text).site }) in
-        (j.0, (reading_of text).site, back.1, back.0)
+        let r = granted_reading (reading_of text) e in
+        let back = writes_back text r.0.job r.0.site r.1 in
+        (r.0.job, r.0.site, back.1, back.0)
 
-    there : (j : Job) × (s : Site) × Writable j s × (job_text j (parts_of s) ≡ text) → (given (reading_of text).answer).0 ≡ granted
+    there : (j : Job) × (s : Site) × Writable j s × (job_text j (parts_of s) ≡ text) → (given (reading_of text)).0 ≡ granted
     there t =
-        ap (λ (u : List ℕ). (given (reading_of u).answer).0) (sym t.3)
-        ∙ ap (λ (r : Reading). (given r.answer).0) (reads_back t.0 t.1 t.2).0
+        ap (λ (u : List ℕ). (given (reading_of u)).0) (sym t.3)
+        ∙ ap (λ (r : Result Reading Unread). (given r).0) (reads_back t.0 t.1 t.2).0
 
 pub one_text : OneText
 one_text j k s t v w e =
     let one = reads_back j s v in
     let other = reads_back k t w in
-    let whole = sym one.0 ∙ ap reading_of e ∙ other.0 in
-    let answers = ap (λ (r : Reading). r.answer) whole in
-    let job : j ≡ k = cc in
-    (job, sym one.2 ∙ ap (λ (r : Reading). parts_of r.site) whole ∙ other.2)
+    let whole = one_reading (sym one.0 ∙ ap reading_of e ∙ other.0) in
+    (ap (λ (r : Reading). r.job) whole, sym one.2 ∙ ap (λ (r : Reading). parts_of r.site) whole ∙ other.2)

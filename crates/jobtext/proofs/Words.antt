@@ -1,5 +1,6 @@
 -- The words of a job: the word of a case reads as that case, and a word that reads is the word of the case that it reads as.
 -- Assumes nothing.
+use Rattle.std.specs.Prelude.{Some}
 use Prim.Native.Nat.{ℕ, zero, suc, ◌≤◌}
 use mathlib.Core.Bool.{true}
 use mathlib.Core.List.{List}
@@ -16,7 +17,6 @@ use Rattle.site.specs.declared.Soil.{Soil}
 use Rattle.site.specs.declared.Soil.TheVariants as soil
 use Rattle.curve.specs.declared.Mode.{Mode}
 use Rattle.curve.specs.declared.Mode.TheVariants.{Step, Mix}
-use Rattle.text.specs.declared.Found.TheVariants.{At}
 use Rattle.text.specs.Pieces.{line_feed, comma, space, joined, pieces}
 use Rattle.text.specs.Words.{same_of, place_from, place_of}
 use Rattle.text.proofs.Front.{free, all_free}
@@ -30,7 +30,7 @@ use Rattle.jobtext.specs.Text.{word_at}
 
 -- the word at a place is found there
 abbrev pub FoundAt : List ℕ → ℕ → Type 0
-FoundAt words k = place_of words (word_at words k) ≡ At k
+FoundAt words k = place_of words (word_at words k) ≡ Some k
 
 -- The word of a practice is found at its number,
 pub practice_reads : (k : ℕ) → k ≤ 8 → FoundAt practice_words k
@@ -95,7 +95,7 @@ abbrev pub Spells : List ℕ → ℕ → List ℕ → Type 0
 Spells words k v = (1 ≤ length v) × (word_at words k ≡ v)
 
 -- A text that is found among the practices' words is one of nine, and the word of the practice that it reads as,
-pub practice_written : (v : List ℕ) {k : ℕ} → place_of practice_words v ≡ At k → (k ≤ 8) × Spells practice_words k v
+pub practice_written : (v : List ℕ) {k : ℕ} → place_of practice_words v ≡ Some k → (k ≤ 8) × Spells practice_words k v
 unfolding Each pieces joined
 practice_written v e =
     found_word (λ w k. (k ≤ 8) × Spells practice_words k w) (pieces space practice_words) v 0
@@ -103,38 +103,38 @@ practice_written v e =
     e
 
 -- and one that is found among those of the cases is the word of the case.
-pub nutrient_written : (v : List ℕ) {k : ℕ} → place_of nutrient_words v ≡ At k → Spells nutrient_words (nutrient_place (nutrient_at k)) v
+pub nutrient_written : (v : List ℕ) {k : ℕ} → place_of nutrient_words v ≡ Some k → Spells nutrient_words (nutrient_place (nutrient_at k)) v
 unfolding Each pieces joined
 nutrient_written v e =
     found_word (λ w k. Spells nutrient_words (nutrient_place (nutrient_at k)) w) (pieces space nutrient_words) v 0
     ((omega arith, refl), ((omega arith, refl), tt))
     e
 
-pub mode_written : (v : List ℕ) {k : ℕ} → place_of mode_words v ≡ At k → Spells mode_words (mode_place (mode_at k)) v
+pub mode_written : (v : List ℕ) {k : ℕ} → place_of mode_words v ≡ Some k → Spells mode_words (mode_place (mode_at k)) v
 unfolding Each pieces joined
 mode_written v e =
     found_word (λ w k. Spells mode_words (mode_place (mode_at k)) w) (pieces space mode_words) v 0
     ((omega arith, refl), ((omega arith, refl), tt))
     e
 
-pub task_written : (v : List ℕ) {k : ℕ} → place_of task_words v ≡ At k → Spells task_words (task_place (task_at k)) v
+pub task_written : (v : List ℕ) {k : ℕ} → place_of task_words v ≡ Some k → Spells task_words (task_place (task_at k)) v
 unfolding Each pieces joined
 task_written v e =
     found_word (λ w k. Spells task_words (task_place (task_at k)) w) (pieces space task_words) v 0
     ((omega arith, refl), ((omega arith, refl), ((omega arith, refl), tt)))
     e
 
-pub land_written : (v : List ℕ) {k : ℕ} → place_of land_words v ≡ At k → word_at land_words (land_place (land_at k)) ≡ v
+pub land_written : (v : List ℕ) {k : ℕ} → place_of land_words v ≡ Some k → word_at land_words (land_place (land_at k)) ≡ v
 unfolding Each pieces joined
 land_written v e =
     found_word (λ w k. word_at land_words (land_place (land_at k)) ≡ w) (pieces space land_words) v 0 (refl, (refl, (refl, (refl, (refl, (refl, (refl, (refl, (refl, tt))))))))) e
 
-pub cover_written : (v : List ℕ) {k : ℕ} → place_of cover_words v ≡ At k → word_at cover_words (cover_place (cover_at k)) ≡ v
+pub cover_written : (v : List ℕ) {k : ℕ} → place_of cover_words v ≡ Some k → word_at cover_words (cover_place (cover_at k)) ≡ v
 unfolding Each pieces joined
 cover_written v e =
     found_word (λ w k. word_at cover_words (cover_place (cover_at k)) ≡ w) (pieces space cover_words) v 0 (refl, (refl, tt)) e
 
-pub soil_written : (v : List ℕ) {k : ℕ} → place_of soil_words v ≡ At k → word_at soil_words (soil_place (soil_at k)) ≡ v
+pub soil_written : (v : List ℕ) {k : ℕ} → place_of soil_words v ≡ Some k → word_at soil_words (soil_place (soil_at k)) ≡ v
 unfolding Each pieces joined
 soil_written v e =
     found_word (λ w k. word_at soil_words (soil_place (soil_at k)) ≡ w) (pieces space soil_words) v 0 (refl, (refl, (refl, (refl, (refl, (refl, (refl, tt))))))) e

@@ -1,22 +1,23 @@
 -- What writing answers, and what the buffer holds, by the record, the tests and the two lengths.
 -- Assumes nothing.
+use Rattle.std.specs.Prelude.{Result, Ok, Err}
 use Prim.Native.Nat.{ℕ, ◌≤◌, ◌<◌, ◌^◌}
 use mathlib.Core.Bool.{Bool, true, false, not, cond, ◌&&◌}
 use mathlib.Core.List.{List, [], ◌∷◌}
 use mathlib.Core.Path.{◌≡◌, refl, sym, ◌∙◌, ap}
 use native.Mathlib.Nat.{le_trans}
 use native.Mathlib.Omega.{arith}
-use borrow.Author.Tests.{lt-leb, le-leb, lt-ltb, le-ltb, leb-true, ltb-true, not-true, not-false}
+use borrow.Author.Tests.{le-leb, lt-ltb, le-ltb, leb-true, ltb-true, not-true, not-false}
 use lib.Dec.{leb, ltb}
 use lib.ListN.{length}
 use Rattle.laws.specs.Turn.{in_turn}
 use Rattle.laws.proofs.And.{and_left, and_right}
+use Rattle.refusal.specs.Refusal.{granted}
 use Rattle.refusal.specs.declared.Refusal.{Refusal}
 use Rattle.refusal.specs.declared.Refusal.TheVariants.{MalformedText, BufferTooShort}
 use Rattle.units.specs.declared.Area.{Area}
+use Rattle.site.specs.declared.SubArea.{SubArea}
 use Rattle.site.specs.declared.Site.{Site}
-use Rattle.site.specs.declared.AreaAnswer.{AreaAnswer}
-use Rattle.site.specs.declared.AreaAnswer.TheVariants as area
 use Rattle.site.specs.Parts.{most_parts, parts_of}
 use Rattle.site.specs.Judging.{judged, given}
 use Rattle.site.proofs.Judging.{judged_fine, goes_on, stops}
@@ -25,11 +26,10 @@ use Rattle.text.specs.Pieces.{space, joined, pieces}
 use Rattle.text.specs.Numbers.{most_digits}
 use Rattle.job.specs.declared.Job.{Job}
 use Rattle.job.specs.Words.{practice_words}
-use Rattle.writing.specs.declared.Written.TheVariants.{Granted, Refused}
 use Rattle.writing.specs.Writing.{written_of, put_length, buffer_of}
 use Rattle.writing.proofs.Writing.{short_told, long_told, refused_answer, refused_buffer, granted_put}
 use Rattle.jobtext.specs.Text.{has_word, job_text, few_digits, writable, job_written, job_buffer, longest}
-use Rattle.jobtext.specs.Inner.{passes, Passed, Room}
+use Rattle.jobtext.specs.Inner.{passes}
 use Rattle.jobtext.proofs.Lengths.{job_short}
 
 -- nine practices have a word
@@ -37,24 +37,9 @@ nine : length (pieces space practice_words) ≡ 9
 unfolding pieces joined
 nine = refl
 
--- the tests of a job, one by one
-module _ (j : Job) (count : ℕ) where
-  pub none_held : count < 1 → false ≡ passes j count
-  none_held h = rw (lt-leb 1 count h)
-
-  module _ (h : 1 ≤ count) where
-    pub no_word : 9 ≤ j.practice → false ≡ passes j count
-    no_word p = rw (le-leb 1 count h, le-ltb j.practice (length (pieces space practice_words)) (rw nine p))
-
-    module _ (p : j.practice < 9) where
-      worded : has_word practice_words j.practice ≡ true
-      worded = lt-ltb j.practice (length (pieces space practice_words)) (rw nine p)
-
-      pub long_rate : 10 ^ most_digits ≤ j.rate.0 → false ≡ passes j count
-      long_rate r = rw (le-leb 1 count h, worded, le-ltb j.rate.0 (10 ^ most_digits) r)
-
-      pub by_amount : j.rate.0 < 10 ^ most_digits → ltb j.amount (10 ^ most_digits) ≡ passes j count
-      by_amount r = rw (le-leb 1 count h, worded, lt-ltb j.rate.0 (10 ^ most_digits) r)
+-- the tests of a job, with that number
+pub passes_is : (j : Job) (count : ℕ) → passes j count ≡ (leb 1 count && ltb j.practice 9 && ltb j.rate.0 (10 ^ most_digits) && ltb j.amount (10 ^ most_digits))
+passes_is j count = rw nine
 
 -- What the tests ask, where all pass.
 pub record Tested (j : Job) (count : ℕ) : Type 0 where
@@ -81,16 +66,19 @@ tested j count e =
 
 pub tests_pass : (j : Job) (count : ℕ) → Tested j count → true ≡ passes j count
 tests_pass j count t =
-    sym (lt-ltb j.amount (10 ^ most_digits) t.amount) ∙ by_amount j count t.some (let p = t.practice in omega arith) t.rate
+    let p = t.practice in
+    rw (passes_is j count, le-leb 1 count t.some, lt-ltb j.practice 9 (omega arith), lt-ltb j.rate.0 (10 ^ most_digits) t.rate, lt-ltb j.amount (10 ^ most_digits) t.amount)
 
 -- What is known of a record that is judged fine, and of a job that passes with it.
-pub passed_count : (j : Job) (s : Site) → Passed j s → s.count ≤ most_parts
-passed_count j s p = let g = given_some (judged s) p.fine in (judged_fine s g.0 g.1).count
+module _ (s : Site) (fine : (given (judged s)).0 ≡ granted) where
+  judged_count : s.count ≤ most_parts
+  judged_count = let g = given_some (judged s) fine in (judged_fine s g.0 g.1).count
 
-pub long_enough : (j : Job) (s : Site) (len : ℕ) → Passed j s → longest ≤ len → false ≡ ltb len (length (job_text j (parts_of s)))
-long_enough j s len p h =
-    let t = tested j s.count p.tests in
-    sym (le-ltb len (length (job_text j (parts_of s))) (le_trans (job_short j s p.fine t.rate t.amount) h))
+  passed_short : (j : Job) → passes j s.count ≡ true → length (job_text j (parts_of s)) ≤ longest
+  passed_short j p = let t = tested j s.count p in job_short j s fine t.rate t.amount
+
+pub long_enough : (j : Job) (ps : List SubArea) (len : ℕ) → length (job_text j ps) ≤ longest → longest ≤ len → false ≡ ltb len (length (job_text j ps))
+long_enough j ps len s h = sym (le-ltb len (length (job_text j ps)) (le_trans s h))
 
 -- The tests in turn give what all of them together give.
 module _ {A : Type 0} (refused : Refusal → A) (x : A) where
@@ -105,25 +93,32 @@ module _ {A : Type 0} (refused : Refusal → A) (x : A) where
   turned j s = four (leb 1 s.count) (has_word practice_words j.practice) (few_digits j.rate.0) (few_digits j.amount)
 
 -- A record that is refused stops the call,
-module _ (d : List ℕ) (j : Job) (s : Site) {found : AreaAnswer} (e : found ≡ judged s) where
+module _ (d : List ℕ) (j : Job) (s : Site) {found : Result Area Refusal} (e : found ≡ judged s) where
   abbrev text : List ℕ
   text = job_text j (parts_of s)
 
-  pub record_stops : {why : Refusal} → found ≡ area.Refused why → Refused why ≡ job_written d j s
+  pub record_stops : {why : Refusal} → found ≡ Err why → Err why ≡ job_written d j s
   unfolding job_written
-  record_stops f = stops Refused (λ total. in_turn Refused (written_of d text) (writable j s)) s e f
+  record_stops f = stops Err (λ total. in_turn Err (written_of d text) (writable j s)) s e f
 
-  pub record_keeps : {why : Refusal} → found ≡ area.Refused why → d ≡ job_buffer d j s
+  pub record_keeps : {why : Refusal} → found ≡ Err why → d ≡ job_buffer d j s
   unfolding job_buffer
   record_keeps f = stops (λ why. d) (λ total. in_turn (λ why. d) (buffer_of d text) (writable j s)) s e f
 
-  module _ {total : Area} (f : found ≡ area.Granted total) {ok : Bool} (p : ok ≡ passes j s.count) where
-    answered : cond ok (written_of d text) (Refused MalformedText) ≡ job_written d j s
+  fine : {total : Area} → found ≡ Ok total → (given (judged s)).0 ≡ granted
+  fine f = ap (λ (x : Result Area Refusal). (given x).0) (sym e ∙ f)
+
+  -- one that is judged fine has its sub-areas,
+  pub count_fits : {total : Area} → found ≡ Ok total → s.count ≤ most_parts
+  count_fits f = judged_count s (fine f)
+
+  module _ {total : Area} (f : found ≡ Ok total) {ok : Bool} (p : ok ≡ passes j s.count) where
+    answered : cond ok (written_of d text) (Err MalformedText) ≡ job_written d j s
     unfolding job_written
     answered =
-        ap (λ (b : Bool). cond b (written_of d text) (Refused MalformedText)) p
-        ∙ sym (turned Refused (written_of d text) j s)
-        ∙ goes_on Refused (λ total. in_turn Refused (written_of d text) (writable j s)) s e f
+        ap (λ (b : Bool). cond b (written_of d text) (Err MalformedText)) p
+        ∙ sym (turned Err (written_of d text) j s)
+        ∙ goes_on Err (λ total. in_turn Err (written_of d text) (writable j s)) s e f
 
     left : cond ok (buffer_of d text) d ≡ job_buffer d j s
     unfolding job_buffer
@@ -133,15 +128,15 @@ module _ (d : List ℕ) (j : Job) (s : Site) {found : AreaAnswer} (e : found ≡
         ∙ goes_on (λ why. d) (λ total. in_turn (λ why. d) (buffer_of d text) (writable j s)) s e f
 
     -- so does a test that fails,
-    pub tests_stop : not ok ≡ true → Refused MalformedText ≡ job_written d j s
+    pub tests_stop : not ok ≡ true → Err MalformedText ≡ job_written d j s
     tests_stop n = rw (not-true ok n) at answered
 
     pub tests_keep : not ok ≡ true → d ≡ job_buffer d j s
     tests_keep n = rw (not-true ok n) at left
 
     module _ (n : not ok ≡ false) where
-      pub passed : Passed j s
-      passed = record { fine = ap (λ (x : AreaAnswer). (given x).0) (sym e ∙ f); tests = sym p ∙ not-false ok n }
+      pub short_enough : length text ≤ longest
+      short_enough = passed_short s (fine f) j (sym p ∙ not-false ok n)
 
       written : written_of d text ≡ job_written d j s
       written = rw (not-false ok n) at answered
@@ -151,16 +146,16 @@ module _ (d : List ℕ) (j : Job) (s : Site) {found : AreaAnswer} (e : found ≡
 
       -- and then the lengths decide.
       module _ {short : Bool} (t : short ≡ ltb (length d) (length text)) where
-        pub short_stops : short ≡ true → Refused BufferTooShort ≡ job_written d j s
+        pub short_stops : short ≡ true → Err BufferTooShort ≡ job_written d j s
         short_stops h = refused_answer d text (short_told d text t h) ∙ written
 
         pub short_keeps : short ≡ true → d ≡ job_buffer d j s
         short_keeps h = refused_buffer d text (short_told d text t h) ∙ holds
 
-        pub has_room : short ≡ false → Room text s d
-        has_room h = record { count = passed_count j s passed; fits = long_told d text t h }
+        pub has_room : short ≡ false → length text ≤ length d
+        has_room h = long_told d text t h
 
-        pub put_answers : {r : ℕ} → short ≡ false → r ≡ put_length d text → Granted r ≡ job_written d j s
+        pub put_answers : {r : ℕ} → short ≡ false → r ≡ put_length d text → Ok r ≡ job_written d j s
         put_answers h a = granted_put d text (long_told d text t h) a ∙ written
 
         pub put_holds : {after : List ℕ} → short ≡ false → after ≡ buffer_of d text → after ≡ job_buffer d j s

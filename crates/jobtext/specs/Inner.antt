@@ -1,26 +1,15 @@
 -- What only private functions ask of one another: nobody need read it to believe the promises.
 -- Assumes nothing.
-use Rattle.std.specs.Prelude.{ℕ, ◌≤◌, Bool, true, ◌&&◌, ◌≡◌, leb, length}
+use Rattle.std.specs.Prelude.{ℕ, Bool, true, ◌&&◌, leb, length, sum_by}
 use mathlib.Core.List.{List, [], ◌∷◌, ◌++◌, flatten, map}
-use Rattle.refusal.specs.Refusal.{granted}
+use Rattle.laws.specs.Text.{bytes}
 use Rattle.site.specs.declared.SubArea.{SubArea}
-use Rattle.site.specs.declared.Site.{Site}
-use Rattle.site.specs.Parts.{most_parts}
-use Rattle.site.specs.Judging.{judged, given}
-use Rattle.text.specs.Pieces.{line_feed}
+use Rattle.site.specs.Parts.{area_of}
 use Rattle.text.specs.Numbers.{decimal_of}
 use Rattle.job.specs.declared.Job.{Job}
-use Rattle.job.specs.Words.{practice_words}
-use Rattle.writing.specs.Lines.{word_at}
-use Rattle.jobtext.specs.Text.{has_word, area_text, head_texts, few_digits}
-
--- the word at a place of a list in rows of n bytes, with the byte that ends it
-abbrev pub ended_word : ℕ → List ℕ → ℕ → ℕ → List ℕ
-ended_word n words k end = word_at n words k ++ (end ∷ [])
-
--- a number with the line feed that ends it
-abbrev pub ended_number : ℕ → List ℕ
-ended_number n = decimal_of n ++ (line_feed ∷ [])
+use Rattle.job.specs.Words.{practice_words, land_words, cover_words, soil_words}
+use Rattle.job.specs.Words.{land_place, cover_place, soil_place}
+use Rattle.jobtext.specs.Text.{word_at, has_word, field_of, area_text, head_texts, few_digits}
 
 -- the first six lines as one text, and those of the sub-areas
 unfoldable pub head_text : Job → List ℕ
@@ -29,16 +18,32 @@ head_text j = flatten (head_texts j)
 unfoldable pub areas_text : List SubArea → List ℕ
 areas_text ps = flatten (map area_text ps)
 
+-- the length of the lines of some sub-areas
+abbrev pub areas_length : List SubArea → ℕ
+areas_length ps = sum_by (λ (p : SubArea). length (area_text p)) ps
+
+-- no word of some has more than n bytes
+abbrev pub all_short : ℕ → List (List ℕ) → Bool
+all_short n [] = true
+all_short n (w ∷ ws) = leb (length w) n && all_short n ws
+
 -- the tests that follow those of the record, all of which pass
 abbrev pub passes : Job → ℕ → Bool
 passes j count = leb 1 count && has_word practice_words j.practice && few_digits j.rate.0 && few_digits j.amount
 
--- a record that is judged fine, and a job that passes with it
-pub record Passed (j : Job) (s : Site) : Type 0 where
-  pub fine : (given (judged s)).0 ≡ granted
-  pub tests : passes j s.count ≡ true
+-- the line of a sub-area in the pieces in which it is put, one field in each
+abbrev pub area_fields : SubArea → List (List ℕ)
+area_fields p =
+    (bytes "area=" ++ field_of (word_at land_words (land_place p.land)))
+    ∷ field_of (word_at cover_words (cover_place p.cover))
+    ∷ field_of (word_at soil_words (soil_place p.soil))
+    ∷ (decimal_of (area_of p) ++ bytes "\n")
+    ∷ []
 
--- a site of at most 32 sub-areas, and room for a text of them
-pub record Room (text : List ℕ) (s : Site) (buf : List ℕ) : Type 0 where
-  pub count : s.count ≤ most_parts
-  pub fits : length text ≤ length buf
+abbrev pub areas_fields : List SubArea → List (List ℕ)
+areas_fields [] = []
+areas_fields (p ∷ ps) = area_fields p ++ areas_fields ps
+
+-- and so the whole text
+abbrev pub job_pieces : Job → List SubArea → List (List ℕ)
+job_pieces j ps = head_texts j ++ areas_fields ps

@@ -1,7 +1,7 @@
 -- Rules, "Writing a job": what is promised of a written job, as statements that proofs/Promises.antt, Lengths.antt and RoundTrip.antt
 -- prove.
 -- Assumes nothing.
-use Rattle.std.specs.Prelude.{ℕ, ◌≤◌, ◌<◌, ◌^◌, List, ◌↔◌, ◌≡◌, length, take, drop}
+use Rattle.std.specs.Prelude.{ℕ, ◌≤◌, ◌<◌, ◌^◌, List, ◌↔◌, ◌≡◌, length, take, drop, Ok}
 use Rattle.refusal.specs.declared.Refusal.TheVariants.{MalformedText, BufferTooShort}
 use Rattle.refusal.specs.Refusal.{number_of, granted}
 use Rattle.site.specs.declared.Site.{Site}
@@ -10,7 +10,6 @@ use Rattle.site.specs.Judging.{judged, given as given_area}
 use Rattle.site.specs.Promises.{InMemory}
 use Rattle.text.specs.Numbers.{most_digits}
 use Rattle.job.specs.declared.Job.{Job}
-use Rattle.job.specs.declared.JobAnswer.TheVariants.{Granted}
 use Rattle.job.specs.Reading.{most_bytes, reading_of, given}
 use Rattle.writing.specs.Writing.{written_given}
 use Rattle.jobtext.specs.Text.{job_text, job_written, job_buffer, longest}
@@ -32,7 +31,7 @@ abbrev pub ReadsBack : Type 0
 ReadsBack =
     (j : Job) (s : Site)
     → Writable j s
-    → (reading_of (job_text j (parts_of s)) ≡ record { answer = Granted j; site = site_of (parts_of s) })
+    → (reading_of (job_text j (parts_of s)) ≡ Ok (record { job = j; site = site_of (parts_of s) }))
     × ((site_of (parts_of s)).count ≡ s.count)
     × (parts_of (site_of (parts_of s)) ≡ parts_of s)
 
@@ -40,14 +39,14 @@ ReadsBack =
 abbrev pub WritesBack : Type 0
 WritesBack =
     (text : List ℕ) (j : Job) (s : Site)
-    → reading_of text ≡ record { answer = Granted j; site = s }
+    → reading_of text ≡ Ok (record { job = j; site = s })
     → (job_text j (parts_of s) ≡ text) × Writable j s
 
 -- So the texts that read are the texts that are written.
 abbrev pub WrittenTextsRead : Type 0
 WrittenTextsRead =
     (text : List ℕ)
-    → ((given (reading_of text).answer).0 ≡ granted) ↔ ((j : Job) × (s : Site) × Writable j s × (job_text j (parts_of s) ≡ text))
+    → ((given (reading_of text)).0 ≡ granted) ↔ ((j : Job) × (s : Site) × Writable j s × (job_text j (parts_of s) ≡ text))
 
 -- No text that is written is longer than the longest, and so none passes 4,096 bytes.
 abbrev pub NeverTooLong : Type 0

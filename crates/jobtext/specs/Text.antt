@@ -1,7 +1,7 @@
 -- Rules, "Job and answer text" and "Writing a job": a job and its sub-areas as a job text, and the writing of that text into a lent
 -- buffer.
 -- Assumes nothing.
-use Rattle.std.specs.Prelude.{ℕ, ◌+◌, ◌*◌, ◌^◌, Bool, leb, ltb, length, get_or}
+use Rattle.std.specs.Prelude.{ℕ, ◌+◌, ◌*◌, ◌^◌, Bool, leb, ltb, length, get_or, Result, Err}
 use mathlib.Core.List.{List, [], ◌∷◌, ◌++◌, flatten, map}
 use Rattle.laws.specs.Text.{bytes}
 use Rattle.laws.specs.Turn.{in_turn}
@@ -16,8 +16,6 @@ use Rattle.text.specs.Numbers.{most_digits, decimal_of}
 use Rattle.job.specs.declared.Job.{Job}
 use Rattle.job.specs.Words.{practice_words, nutrient_words, mode_words, task_words, land_words, cover_words, soil_words}
 use Rattle.job.specs.Words.{nutrient_place, mode_place, task_place, land_place, cover_place, soil_place}
-use Rattle.writing.specs.declared.Written.{Written}
-use Rattle.writing.specs.declared.Written.TheVariants.{Refused}
 use Rattle.writing.specs.Writing.{written_of, buffer_of}
 use Rattle.writing.specs.Lines.{line_with, line_of}
 
@@ -76,9 +74,9 @@ writable j s =
     ∷ []
 
 -- What writing answers: the record's refusal, then 1, and then the length of the text or 13.
-unfoldable pub job_written : List ℕ → Job → Site → Written
+unfoldable pub job_written : List ℕ → Job → Site → Result ℕ Refusal
 job_written buf j s =
-    after_judging Refused (λ total. in_turn Refused (written_of buf (job_text j (parts_of s))) (writable j s)) (judged s)
+    after_judging Err (λ total. in_turn Err (written_of buf (job_text j (parts_of s))) (writable j s)) (judged s)
 
 -- What the buffer holds afterwards: the text at its start, or, where any of these refuses, what it held.
 unfoldable pub job_buffer : List ℕ → Job → Site → List ℕ

@@ -1,19 +1,18 @@
 // Rules, "Job and answer text" and "Writing a job": a job and a site, written as a job text into a lent buffer.
 #![tactic(auto)]
 
-ghost use Rattle.std.specs.Prelude.{◌≡◌, ◌≤◌, ltb, length};
-ghost use Rattle.site.specs.Parts.{most_parts, parts_of};
+ghost use Rattle.std.specs.Prelude.{◌≡◌, ◌≤◌, true, ltb, length, map};
 ghost use Rattle.writing.specs.Writing.{put_length, buffer_of};
-ghost use Rattle.writing.specs.Lines.{line_with, line_of, word_at};
-ghost use Rattle.jobtext.specs.Text.{area_text, job_text, job_written, job_buffer, longest};
-ghost use Rattle.jobtext.specs.Inner.{ended_word, ended_number, head_text, areas_text, passes, Passed, Room};
+ghost use Rattle.writing.specs.Lines.{word_at};
+ghost use Rattle.writing.specs.Writer.{so_far, all_added};
+ghost use Rattle.jobtext.specs.Text.{area_text, head_texts, job_text, job_written, job_buffer, longest};
+ghost use Rattle.jobtext.specs.Inner.{head_text, all_short, areas_length, area_fields, job_pieces, passes};
 
 use job::{Job, words};
 use refusal::Refusal;
-use site::{AreaAnswer, Site, SubArea};
-use writing::Written;
-
-mod places;
+use site::{Site, SubArea};
+use units::Coded;
+use writing::Writer;
 
 // The length of the longest text: a buffer of this size is never too short.
 pub const LONGEST: usize = 837;
@@ -29,244 +28,131 @@ pub fn room() -> usize
 const FIFTEEN_DIGITS: u64 = 100_000_000_000_000;
 
 // Writes a job with its site at the start of buf: the record is judged, then the job is tried, then the length of buf.
-pub fn write(job: Job, site: Site, buf: &mut [u8]) -> Written
+pub fn write(job: Job, site: Site, buf: &mut [u8]) -> Result<usize, Refusal>
     ensures value { result ≡ job_written buf.old job site }
     ensures buf_after { buf.new ≡ job_buffer buf.old job site }
 {
-    let found = site::judge(site);
-    match found {
-        AreaAnswer::Refused(why) => return Written::Refused(why),
-        AreaAnswer::Granted(_) => {
-            if !passes(job, site.count) {
-                return Written::Refused(Refusal::MalformedText);
-            }
-            if too_short(job, site, buf.len()) {
-                return Written::Refused(Refusal::BufferTooShort);
-            }
-            return Written::Granted(put_text(job, site, buf));
-        }
+    site.judge()?;
+    if !passes(job, site.count) {
+        return Err(Refusal::MalformedText);
     }
+    let parts = &site.parts[..site.count];
+    if too_short(job, parts, buf.len()) {
+        return Err(Refusal::BufferTooShort);
+    }
+    Ok(put_text(job, parts, buf))
 }
 
 // What is tried of a job, and of the count of a record that is judged fine: a sub-area, a practice that has a word, and numbers of at
 // most 14 digits.
+#[tactic(auto, using(crate::proofs::Writing::passes_is))]
 fn passes(job: Job, count: usize) -> bool
     ensures { result ≡ passes job count }
 {
-    if count < 1 {
-        return false;
-    }
-    if 9 <= job.practice {
-        return false;
-    }
-    if FIFTEEN_DIGITS <= job.rate.0 {
-        return false;
-    }
-    job.amount < FIFTEEN_DIGITS
+    1 <= count && job.practice < 9 && job.rate.0 < FIFTEEN_DIGITS && job.amount < FIFTEEN_DIGITS
 }
 
 // Whether so many bytes are too few for the text, whose length is worked out only where the longest would not fit.
-fn too_short(job: Job, site: Site, len: usize) -> bool
-    requires { Passed job site }
-    ensures { result ≡ ltb len (length (job_text job (parts_of site))) }
+#[tactic(auto, using(crate::proofs::Writing::long_enough, crate::proofs::Sizes::sized_told, crate::proofs::Sizes::areas_few))]
+fn too_short(job: Job, parts: &[SubArea], len: usize) -> bool
+    requires { length (job_text job parts.now) ≤ longest }
+    ensures { result ≡ ltb len (length (job_text job parts.now)) }
 {
     if LONGEST <= len {
         return false;
     }
-    len < head_size(job) + areas_size(site)
+    len < head_size(job) + areas_size(parts)
 }
 
 // The length of the first six lines: their keys and line ends, the letter of the nutrient, and the other words and digits.
 fn head_size(job: Job) -> usize
-    ensures { (result ≡ length (head_text job)) × (result ≤ 106) }
+    ensures { (result ≡ length (head_text job)) × (result ≤ 114) }
 {
-    let mode = job.mode;
-    let task = job.task;
     let practice = job.practice as usize;
-    47 + word_size(&words::PRACTICES, words::PRACTICE_WIDTH, practice)
-        + word_size(&words::MODES, words::MODE_WIDTH, places::mode(mode))
+    47 + word_size(&words::PRACTICES, practice)
+        + word_size(&words::MODES, job.mode.place())
         + writing::width(job.rate.0)
-        + word_size(&words::TASKS, words::TASK_WIDTH, places::task(task))
+        + word_size(&words::TASKS, job.task.place())
         + writing::width(job.amount)
 }
 
 // That of the line of a sub-area: its key, its commas and its line end, the three letters of the cover, and the other fields.
-fn area_size(part: SubArea) -> usize
-    ensures { (result ≡ length (area_text part)) × (result ≤ 38) }
+fn area_size(part: &SubArea) -> usize
+    ensures { result ≡ length (area_text part.now) }
 {
-    let land = part.land;
-    let soil = part.soil;
-    let area = part.area;
-    12 + word_size(&words::LANDS, words::LAND_WIDTH, places::land(land))
-        + word_size(&words::SOILS, words::SOIL_WIDTH, places::soil(soil))
-        + writing::width(area.0)
+    12 + word_size(&words::LANDS, part.land.place())
+        + word_size(&words::SOILS, part.soil.place())
+        + writing::width(part.area.0)
 }
 
-// That of a word, which is no longer than its row.
-fn word_size(words: &[u8], width: usize, k: usize) -> usize
-    ensures { (result ≡ length (word_at width words.now k)) × (result ≤ width) }
+// That of a word, of which none has more than nine bytes.
+#[tactic(auto, using(crate::proofs::Short::size_short))]
+fn word_size(words: &[&[u8]], k: usize) -> usize
+    requires { all_short 9 (map (λ w. w.now) words.now) ≡ true }
+    ensures { (result ≡ length (word_at (map (λ w. w.now) words.now) k)) × (result ≤ 9) }
 {
-    writing::word_size(words, width, k)
+    writing::word_size(words, k)
 }
 
 // That of the lines of all sub-areas.
-fn areas_size(site: Site) -> usize
-    requires { site.count ≤ most_parts }
-    ensures { (result ≡ length (areas_text (parts_of site))) × (result ≤ 1_216) }
+fn areas_size(parts: &[SubArea]) -> usize
+    requires { areas_length parts.now ≤ longest }
+    ensures { result ≡ areas_length parts.now }
 {
-    let count = site.count;
-    let mut size = 0;
-    let mut i = 0;
-    while i < count {
-        let part = site.parts[i];
-        size += area_size(part);
-        i += 1;
+    parts.iter().map(area_size).sum()
+}
+
+// Puts the text at the start of buf and answers its length.
+#[tactic(auto, using(crate::proofs::Pieces::put_length_told, crate::proofs::Pieces::put_buffer_told))]
+fn put_text(job: Job, parts: &[SubArea], buf: &mut [u8]) -> usize
+    requires { length (job_text job parts.now) ≤ length buf.old }
+    ensures value { result ≡ put_length buf.old (job_text job parts.now) }
+    ensures buf_after { buf.new ≡ buffer_of buf.old (job_text job parts.now) }
+{
+    let mut out = Writer::new(buf);
+    put_lines(job, parts, &mut out);
+    out.at
+}
+
+// Puts the first six lines, and then the line of each sub-area behind the one before it.
+#[tactic(auto, using(crate::proofs::Pieces::areas_more, crate::proofs::Pieces::areas_all))]
+fn put_lines(job: Job, parts: &[SubArea], out: &mut Writer<'_>)
+    ensures same { out.new.buf.ghost_name ≡ out.old.buf.ghost_name }
+    ensures value { so_far out.new ≡ all_added (so_far out.old) (job_pieces job parts.now) }
+{
+    put_head(job, out);
+    for part in parts {
+        put_area(part, out);
     }
-    size
 }
 
-// Puts the text at the start of buf and answers its length: the first six lines, and then the line of each sub-area into the rest of
-// buf behind the one before it.
-fn put_text(job: Job, site: Site, buf: &mut [u8]) -> usize
-    requires { Room (job_text job (parts_of site)) site buf.old }
-    ensures value { result ≡ put_length buf.old (job_text job (parts_of site)) }
-    ensures buf_after { buf.new ≡ buffer_of buf.old (job_text job (parts_of site)) }
+// Puts the first six lines.
+fn put_head(job: Job, out: &mut Writer<'_>)
+    ensures same { out.new.buf.ghost_name ≡ out.old.buf.ghost_name }
+    ensures value { so_far out.new ≡ all_added (so_far out.old) (head_texts job) }
 {
-    let held = site.count;
-    let mut at = put_head(job, buf);
-    let mut i = 0;
-    while i < held {
-        let part = site.parts[i];
-        at += put_area(part, &mut buf[at..]);
-        i += 1;
-    }
-    at
+    let practice = job.practice as usize;
+    let nutrient = job.nutrient.place();
+    let mode = job.mode.place();
+    let task = job.task.place();
+    out.word(b"practice=", &words::PRACTICES, practice, b'\n');
+    out.word(b"nutrient=", &words::NUTRIENTS, nutrient, b'\n');
+    out.word(b"mode=", &words::MODES, mode, b'\n');
+    out.number(b"rate=", job.rate.0, b'\n');
+    out.word(b"task=", &words::TASKS, task, b'\n');
+    out.number(b"amount=", job.amount, b'\n');
 }
 
-// Puts the first six lines, each into the rest of buf behind the one before it.
-fn put_head(job: Job, buf: &mut [u8]) -> usize
-    requires { length (head_text job) ≤ length buf.old }
-    ensures value { result ≡ put_length buf.old (head_text job) }
-    ensures buf_after { buf.new ≡ buffer_of buf.old (head_text job) }
+// Puts the line of a sub-area: three words, each with a comma behind it, and its area.
+fn put_area(part: &SubArea, out: &mut Writer<'_>)
+    ensures same { out.new.buf.ghost_name ≡ out.old.buf.ghost_name }
+    ensures value { so_far out.new ≡ all_added (so_far out.old) (area_fields part.now) }
 {
-    let of_nutrient = job.nutrient;
-    let of_mode = job.mode;
-    let of_task = job.task;
-    let nutrient = word_line(
-        b"practice=",
-        &words::PRACTICES,
-        words::PRACTICE_WIDTH,
-        job.practice as usize,
-        buf,
-    );
-    let mode = nutrient
-        + word_line(
-            b"nutrient=",
-            &words::NUTRIENTS,
-            words::NUTRIENT_WIDTH,
-            places::nutrient(of_nutrient),
-            &mut buf[nutrient..],
-        );
-    let rate = mode
-        + word_line(
-            b"mode=",
-            &words::MODES,
-            words::MODE_WIDTH,
-            places::mode(of_mode),
-            &mut buf[mode..],
-        );
-    let task = rate + number_line(b"rate=", job.rate.0, &mut buf[rate..]);
-    let amount = task
-        + word_line(
-            b"task=",
-            &words::TASKS,
-            words::TASK_WIDTH,
-            places::task(of_task),
-            &mut buf[task..],
-        );
-    amount + number_line(b"amount=", job.amount, &mut buf[amount..])
-}
-
-// Puts the line of a sub-area: its key into the part that it fills, and each field into the rest behind it.
-fn put_area(part: SubArea, buf: &mut [u8]) -> usize
-    requires { length (area_text part) ≤ length buf.old }
-    ensures value { result ≡ put_length buf.old (area_text part) }
-    ensures buf_after { buf.new ≡ buffer_of buf.old (area_text part) }
-{
-    let of_land = part.land;
-    let of_cover = part.cover;
-    let of_soil = part.soil;
-    let of_area = part.area;
-    let key: &[u8] = b"area=";
-    let land = key.len();
-    writing::put(key, &mut buf[..land]);
-    let cover = land
-        + end_word(
-            &words::LANDS,
-            words::LAND_WIDTH,
-            places::land(of_land),
-            b',',
-            &mut buf[land..],
-        );
-    let soil = cover
-        + end_word(
-            &words::COVERS,
-            words::COVER_WIDTH,
-            places::cover(of_cover),
-            b',',
-            &mut buf[cover..],
-        );
-    let area = soil
-        + end_word(
-            &words::SOILS,
-            words::SOIL_WIDTH,
-            places::soil(of_soil),
-            b',',
-            &mut buf[soil..],
-        );
-    area + end_number(of_area.0, &mut buf[area..])
-}
-
-// Puts a line: its key into the part that it fills, and the word into the rest behind it.
-fn word_line(key: &[u8], words: &[u8], width: usize, k: usize, buf: &mut [u8]) -> usize
-    requires { length (line_with key.now (word_at width words.now k)) ≤ length buf.old }
-    ensures value { result ≡ put_length buf.old (line_with key.now (word_at width words.now k)) }
-    ensures buf_after { buf.new ≡ buffer_of buf.old (line_with key.now (word_at width words.now k)) }
-{
-    let value = key.len();
-    writing::put(key, &mut buf[..value]);
-    value + end_word(words, width, k, b'\n', &mut buf[value..])
-}
-
-// The same with a number.
-fn number_line(key: &[u8], n: u64, buf: &mut [u8]) -> usize
-    requires { length (line_of key.now n) ≤ length buf.old }
-    ensures value { result ≡ put_length buf.old (line_of key.now n) }
-    ensures buf_after { buf.new ≡ buffer_of buf.old (line_of key.now n) }
-{
-    let value = key.len();
-    writing::put(key, &mut buf[..value]);
-    value + end_number(n, &mut buf[value..])
-}
-
-// Puts a word of a list and the byte that ends it.
-fn end_word(words: &[u8], width: usize, k: usize, end: u8, buf: &mut [u8]) -> usize
-    requires { length (ended_word width words.now k end) ≤ length buf.old }
-    ensures value { result ≡ put_length buf.old (ended_word width words.now k end) }
-    ensures buf_after { buf.new ≡ buffer_of buf.old (ended_word width words.now k end) }
-{
-    let last = writing::put_word(words, width, k, buf);
-    buf[last] = end;
-    last + 1
-}
-
-// Puts a number and the line feed that ends it.
-fn end_number(n: u64, buf: &mut [u8]) -> usize
-    requires { length (ended_number n) ≤ length buf.old }
-    ensures value { result ≡ put_length buf.old (ended_number n) }
-    ensures buf_after { buf.new ≡ buffer_of buf.old (ended_number n) }
-{
-    let last = writing::put_number(n, buf);
-    buf[last] = b'\n';
-    last + 1
+    let land = part.land.place();
+    let cover = part.cover.place();
+    let soil = part.soil.place();
+    out.word(b"area=", &words::LANDS, land, b',');
+    out.word(b"", &words::COVERS, cover, b',');
+    out.word(b"", &words::SOILS, soil, b',');
+    out.number(b"", part.area.0, b'\n');
 }

@@ -1,12 +1,12 @@
--- Laws of a list whose gap is closed up: how a loop closes it, what its places hold, and the sum of what is left.
+-- Laws of a list whose gap is closed up: what its places hold, and the sum of what is left.
 -- Assumes nothing.
-use Prim.Native.Nat.{ℕ, suc, ◌+◌, ◌-◌, ◌≤◌, ◌<◌}
+use Prim.Native.Nat.{ℕ, ◌+◌, ◌-◌, ◌≤◌, ◌<◌}
 use mathlib.Core.List.{List, ◌++◌}
 use mathlib.Core.Path.{◌≡◌, sym, ◌∙◌, ap, subst}
 use native.Mathlib.Nat.{add-sub_of_le}
 use native.Mathlib.Omega.{arith}
-use lib.ListN.{length, take, drop, get_or, set, length-drop, take-append-drop}
-use lib.Seq.{paste, paste-zero, paste-suc, length-paste, take-paste, drop-paste, get_or-drop, take-add, drop_at, length-take-le, take-take}
+use lib.ListN.{length, take, drop, get_or, length-drop, take-append-drop}
+use lib.Seq.{paste, length-paste, take-paste, drop-paste, get_or-drop, take-add, drop_at, length-take-le, take-take}
 use Rattle.laws.specs.Sum.{sum_of}
 use Rattle.laws.specs.ClosedUp.{closed_up}
 use Rattle.laws.proofs.Sum.{sum_append, sum_turn}
@@ -15,12 +15,6 @@ module _ {A : Type 0} (xs : List A) (p : ℕ) where
   -- It is a copy of what stands behind place p to place p.
   as_pasted : (n : ℕ) → p ≤ n → closed_up p n xs ≡ paste xs p (drop (p + 1) xs) (n - p)
   as_pasted n h = ap (λ (k : ℕ). take p xs ++ take (n - p) (drop (p + 1) xs) ++ drop k xs) (sym (add-sub_of_le h))
-
-  -- Nothing is closed up at first,
-  pub closed_none : xs ≡ closed_up p p xs
-  closed_none =
-      let z : p - p ≡ 0 = omega arith in
-      paste-zero xs p (drop (p + 1) xs) ∙ ap (paste xs p (drop (p + 1) xs)) (sym z) ∙ sym (as_pasted p (omega arith))
 
   module _ (n : ℕ) (h : p ≤ n) (l : n + 1 ≤ length xs) where
     behind : n - p ≤ length (drop (p + 1) xs)
@@ -61,20 +55,6 @@ module _ {A : Type 0} (xs : List A) (p : ℕ) where
             ap (λ (k : ℕ). drop (p + 1) (take k xs)) e
             ∙ ap (drop (p + 1)) (take-add (p + 1) (n - p) xs)
             ∙ drop_at (take (p + 1) xs) (take (n - p) (drop (p + 1) xs)) (p + 1) (length-take-le (p + 1) xs (omega arith))
-
-  -- and a turn of the loop stores at place n what stands one further on.
-  pub closed_next : (n : ℕ) (z : A) → p ≤ n → n + 1 < length xs → set (closed_up p n xs) n (get_or xs (n + 1) z) ≡ closed_up p (n + 1) xs
-  closed_next n z h l =
-      let d = length-drop (p + 1) xs in
-      let e : p + (n - p) ≡ n = add-sub_of_le h in
-      let s : suc (n - p) ≡ n + 1 - p = omega arith in
-      let k : p + 1 + (n - p) ≡ n + 1 = omega arith in
-      ap (λ (ys : List A). set ys n (get_or xs (n + 1) z)) (as_pasted n h)
-      ∙ ap (λ (j : ℕ). set (paste xs p (drop (p + 1) xs) (n - p)) j (get_or xs (n + 1) z)) (sym e)
-      ∙ ap (set (paste xs p (drop (p + 1) xs) (n - p)) (p + (n - p))) (ap (λ (j : ℕ). get_or xs j z) (sym k) ∙ sym (get_or-drop (p + 1) xs (n - p) z))
-      ∙ paste-suc xs p (drop (p + 1) xs) (n - p) z (omega arith) (omega arith)
-      ∙ ap (paste xs p (drop (p + 1) xs)) s
-      ∙ sym (as_pasted (n + 1) (omega arith))
 
   -- What is left without the element at place p sums up to the whole without its number.
   pub sum_without : (f : A → ℕ) (z : A) → p < length xs → sum_of f (take p xs ++ drop (p + 1) xs) + f (get_or xs p z) ≡ sum_of f xs

@@ -8,6 +8,8 @@ use native.Mathlib.Numerals.{add-one}
 use native.Mathlib.Omega.{arith}
 use lib.ListN.{length, get_or, drop, drop_of_length-le}
 use lib.Seq.{drop-cons}
+use Rattle.std.specs.List.{sum_by}
+use Rattle.std.proofs.lemmas.List.Recursion.{is_sum_by}
 use Rattle.laws.specs.Sum.{sum_of}
 
 module _ {A : Type 0} where
@@ -51,6 +53,11 @@ module _ {A : Type 0} where
   unfolding sum_of
   sum_same f g h [] = refl
   sum_same f g h (x ∷ xs) = let a = h x in let b = sum_same f g h xs in omega arith
+
+  -- It is the library's sum, which a chain of iterators makes.
+  pub sum_is : (f : A → ℕ) (xs : List A) → sum_of f xs ≡ sum_by f xs
+  unfolding sum_of
+  sum_is f xs = is_sum_by (sum_of f) f refl (λ y ys. refl) xs
 
   -- A loop's turn: the sum from place i on is the element's number and the sum from i + 1 on.
   pub sum_turn : (f : A → ℕ) (xs : List A) (i : ℕ) (d : A) → i < length xs → sum_of f (drop i xs) ≡ f (get_or xs i d) + sum_of f (drop (i + 1) xs)

@@ -1,5 +1,6 @@
 -- Laws of the answers: each by the tests that lead to it.
 -- Assumes nothing.
+use Rattle.std.specs.Prelude.{Ok, Err}
 use Prim.Native.Nat.{ℕ, ◌*◌, ◌≤◌, ◌<◌}
 use mathlib.Core.Path.{◌≡◌}
 use native.Mathlib.Nat.{mul-le-mul, lt_of_le_of_lt, mul-le-mul_left, div-le_of_le-mul, mul_comm}
@@ -10,27 +11,26 @@ use mir.Val.{Fits}
 use Rattle.laws.proofs.Quotient.{floor_mono}
 use Rattle.refusal.specs.declared.Refusal.TheVariants.{AmountOutOfRange, PastLargest}
 use Rattle.units.specs.Limits.{largest, most_percent}
-use Rattle.loads.specs.declared.LoadAnswer.TheVariants.{Granted, Refused}
 use Rattle.loads.specs.Loads.{within_largest, removed_of, removed_answer}
 
-pub load_granted : (load : ℕ) → load ≤ largest → Granted (record { 0 = load }) ≡ within_largest load
+pub load_granted : (load : ℕ) → load ≤ largest → Ok (record { 0 = load }) ≡ within_largest load
 load_granted load h = simp (le-leb _ _ h)
 
-pub load_past : (load : ℕ) → largest < load → Refused PastLargest ≡ within_largest load
+pub load_past : (load : ℕ) → largest < load → Err PastLargest ≡ within_largest load
 load_past load h = simp (lt-leb _ _ h)
 
 module _ (load percent : ℕ) where
-  pub percent_out : most_percent < percent → Refused AmountOutOfRange ≡ removed_answer load percent
+  pub percent_out : most_percent < percent → Err AmountOutOfRange ≡ removed_answer load percent
   unfolding removed_answer
   percent_out h = simp (lt-leb _ _ h)
 
-  pub removed_past : percent ≤ most_percent → largest < load → Refused PastLargest ≡ removed_answer load percent
+  pub removed_past : percent ≤ most_percent → largest < load → Err PastLargest ≡ removed_answer load percent
   unfolding removed_answer
   removed_past h l = simp (le-leb _ _ h, lt-leb _ _ l)
 
   -- A load and a percent within their limits have a removed load.
   pub removed_granted : percent ≤ most_percent → load ≤ largest
-      → Granted (record { 0 = removed_of load percent }) ≡ removed_answer load percent
+      → Ok (record { 0 = removed_of load percent }) ≡ removed_answer load percent
   unfolding removed_answer
   removed_granted h l = simp (le-leb _ _ h, le-leb _ _ l)
 

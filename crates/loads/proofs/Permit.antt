@@ -1,5 +1,6 @@
 -- The load under the permit's tables: it never passes 10^13, so the record alone decides.
 -- Assumes nothing.
+use Rattle.std.specs.Prelude.{Result, Ok, Err}
 use Prim.Native.Nat.{ℕ, ◌≤◌}
 use mathlib.Core.List.{List}
 use mathlib.Core.Path.{◌≡◌, refl, sym, ◌∙◌, ap}
@@ -19,8 +20,6 @@ use Rattle.units.specs.declared.Nutrient.TheVariants.{P, N}
 use Rattle.units.specs.Limits.{most_area, largest}
 use Rattle.site.specs.declared.SubArea.{SubArea}
 use Rattle.site.specs.declared.Site.{Site}
-use Rattle.site.specs.declared.AreaAnswer.{AreaAnswer}
-use Rattle.site.specs.declared.AreaAnswer.TheVariants as area
 use Rattle.site.specs.Parts.{parts_of, area_of, total_area}
 use Rattle.site.specs.Judging.{judged}
 use Rattle.site.specs.Judging as site
@@ -42,25 +41,25 @@ load_within n ps h =
 
 module _ (n : Nutrient) (s : Site) where
   -- The load of a record that is judged fine,
-  pub answer_fine : {total : Area} → judged s ≡ area.Granted total → given (load_answer n s) ≡ (granted, load_of (export_rates n) (parts_of s))
+  pub answer_fine : {total : Area} → judged s ≡ Ok total → given (load_answer n s) ≡ (granted, load_of (export_rates n) (parts_of s))
   unfolding load_under
   answer_fine {total} e =
       simp (e, le-leb _ _ (load_within n (parts_of s) (judged_fine s total e).total))
 
   -- and the answer for one that is refused.
-  pub answer_refused : {why : Refusal} → judged s ≡ area.Refused why → given (load_answer n s) ≡ (number_of why, 0)
+  pub answer_refused : {why : Refusal} → judged s ≡ Err why → given (load_answer n s) ≡ (number_of why, 0)
   unfolding load_under
   answer_refused e = simp e
 
   pub granted_load : (a : ℕ) → given (load_answer n s) ≡ (granted, a) → ((site.given (judged s)).0 ≡ granted) × (load_of (export_rates n) (parts_of s) ≡ a)
   granted_load a h = told (judged s) refl
     where
-      told : (x : AreaAnswer) → judged s ≡ x → ((site.given (judged s)).0 ≡ granted) × (load_of (export_rates n) (parts_of s) ≡ a)
-      told (area.Granted total) e = (simp e, ap (λ (g : ℕ × ℕ). g.1) (sym (answer_fine e) ∙ h))
-      told (area.Refused why) e = absurd (refusal_not_granted why (ap (λ (g : ℕ × ℕ). g.0) (sym (answer_refused e) ∙ h)))
+      told : (x : Result Area Refusal) → judged s ≡ x → ((site.given (judged s)).0 ≡ granted) × (load_of (export_rates n) (parts_of s) ≡ a)
+      told (Ok total) e = (simp e, ap (λ (g : ℕ × ℕ). g.1) (sym (answer_fine e) ∙ h))
+      told (Err why) e = absurd (refusal_not_granted why (ap (λ (g : ℕ × ℕ). g.0) (sym (answer_refused e) ∙ h)))
 
   pub fine_load : (a : ℕ) → (site.given (judged s)).0 ≡ granted → load_of (export_rates n) (parts_of s) ≡ a → given (load_answer n s) ≡ (granted, a)
   fine_load a h l = answer_fine (given_some (judged s) h).1 ∙ ap (λ (m : ℕ). (granted, m)) l
 
   pub refused_load : ((site.given (judged s)).0 ≡ granted → ⊥) → given (load_answer n s) ≡ ((site.given (judged s)).0, 0)
-  refused_load h = let r = given_refused (judged s) h in answer_refused r.1 ∙ ap (λ (x : AreaAnswer). ((site.given x).0, 0)) (sym r.1)
+  refused_load h = let r = given_refused (judged s) h in answer_refused r.1 ∙ ap (λ (x : Result Area Refusal). ((site.given x).0, 0)) (sym r.1)

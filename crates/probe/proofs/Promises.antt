@@ -1,6 +1,8 @@
 -- The promises of specs/Promises.antt: floats in order are fractions in order, and rounding and the limit keep the order; and what is
 -- given back goes by the nearest hundredth.
 -- Assumes nothing.
+use Rattle.std.specs.Prelude.{Result, Err}
+use Rattle.units.specs.declared.Rate.{Rate}
 use mathlib.Core.Path.{◌≡◌, refl, sym, ap, ◌∙◌, subst}
 use mathlib.Core.Logic.{◌⊎◌, inl, inr}
 use mathlib.Core.Bool.{Bool, true, false, cond, ◌&&◌, ◌||◌}
@@ -20,8 +22,6 @@ use Rattle.units.specs.Limits.{most_rate}
 use Rattle.laws.proofs.Order.{lt_or_le, never_both}
 use Rattle.probe.specs.declared.Reading.{Reading}
 use Rattle.probe.specs.declared.Reading.TheVariants.{InchesPerHour, MillimetresPerHour}
-use Rattle.probe.specs.declared.RateAnswer.{RateAnswer}
-use Rattle.probe.specs.declared.RateAnswer.TheVariants.{Refused}
 use Rattle.probe.specs.Readings.{rounded, within_most, answer_in, rate_of, given}
 use Rattle.probe.specs.Promises.{up_to, RoundsToNearest, OnlyNearest, not_a_rate, NearestIn, ByNearest, NearestGivenBack, NeverFalls, StaysTooFast}
 use Rattle.probe.proofs.Rounding.{rounded_nearest, rounded_only, rounded_rises}
@@ -68,17 +68,17 @@ hundredths_rise h u m n e d U l =
 -- ---- answers in order
 
 -- no refusal is granted, and 11 is not 12
-not_granted : (why : Refusal) (a : ℕ) → given (Refused why) ≡ (granted, a) → ⊥
+not_granted : (why : Refusal) (a : ℕ) → given (Err why) ≡ (granted, a) → ⊥
 not_granted why a e = refusal_not_granted why (ap (λ (p : ℕ × ℕ). p.0) e)
 
-apart : given (Refused ReadingNotARate) ≡ given (Refused ReadingTooFast) → ⊥
+apart : given (Err ReadingNotARate) ≡ given (Err ReadingTooFast) → ⊥
 apart e =
     let same : number_of ReadingNotARate ≡ number_of ReadingTooFast = ap (λ (p : ℕ × ℕ). p.0) e in
     omega arith
 
 -- what is rounded is granted, or is too fast
 told : (i : ℕ) (q : ℕ × ℕ) → given (within_most i) ≡ q
-    → ((i ≤ most_rate) × ((granted, i) ≡ q)) ⊎ ((most_rate < i) × (given (Refused ReadingTooFast) ≡ q))
+    → ((i ≤ most_rate) × ((granted, i) ≡ q)) ⊎ ((most_rate < i) × (given (Err ReadingTooFast) ≡ q))
 told i q e = elim (lt_or_le most_rate i) [
   | inl past ↦ inr (past, ap given (refused_past i past) ∙ e)
   | inr within ↦ inl (within, ap given (granted_within i within) ∙ e)
@@ -90,24 +90,24 @@ granted_rate i a e = elim (told i (granted, a) e) [
   | inr f ↦ absurd (not_granted ReadingTooFast a f.1)
 ]
 
-refused_rate : (i : ℕ) (why : Refusal) → given (within_most i) ≡ given (Refused why)
-    → (most_rate < i) × (given (Refused ReadingTooFast) ≡ given (Refused why))
-refused_rate i why e = elim (told i (given (Refused why)) e) [
+refused_rate : (i : ℕ) (why : Refusal) → given (within_most i) ≡ given (Err why)
+    → (most_rate < i) × (given (Err ReadingTooFast) ≡ given (Err why))
+refused_rate i why e = elim (told i (given (Err why)) e) [
   | inl w ↦ absurd (not_granted why i (sym w.1))
   | inr f ↦ f
 ]
 
 -- an answer that is refused 11, or is granted with a rate of at most b
-record Lower (b : ℕ) (answer : RateAnswer) : Type 0 where
+record Lower (b : ℕ) (answer : Result Rate Refusal) : Type 0 where
   rate : ℕ
   low : rate ≤ b
   is : given answer ≡ (granted, rate)
 
-abbrev NoMore : ℕ → RateAnswer → Type 0
-NoMore b answer = (answer ≡ Refused ReadingNotARate) ⊎ Lower b answer
+abbrev NoMore : ℕ → Result Rate Refusal → Type 0
+NoMore b answer = (answer ≡ Err ReadingNotARate) ⊎ Lower b answer
 
-by_tests_lem : (p q : Bool) (i j b : ℕ) → (p ≡ false → i ≤ j) → given (cond q (Refused ReadingNotARate) (within_most j)) ≡ (granted, b)
-    → NoMore b (cond p (Refused ReadingNotARate) (within_most i))
+by_tests_lem : (p q : Bool) (i j b : ℕ) → (p ≡ false → i ≤ j) → given (cond q (Err ReadingNotARate) (within_most j)) ≡ (granted, b)
+    → NoMore b (cond p (Err ReadingNotARate) (within_most i))
 by_tests_lem true q i j b l e = inl refl
 by_tests_lem false true i j b l e = absurd (not_granted ReadingNotARate b e)
 by_tests_lem false false i j b l e =
@@ -156,7 +156,7 @@ compared true (suc m) e =
     lt-ltb 0 (suc m * up e * 1 + 0 * down e) (omega arith) ∙ sym (lt-ltb 0 (suc m) (zero-lt-suc m))
 
 -- a float that is no rate, and one with a nearest hundredth
-by_none : (h u : ℕ) (x : Float) → not_a_rate x ≡ true → ((a : ℕ) → NearestIn h u x a → ⊥) → ByNearest h u x (Refused ReadingNotARate)
+by_none : (h u : ℕ) (x : Float) → not_a_rate x ≡ true → ((a : ℕ) → NearestIn h u x a → ⊥) → ByNearest h u x (Err ReadingNotARate)
 by_none h u x none never = record {
   granted_exactly = λ a. (λ e. absurd (not_granted ReadingNotARate a e), λ p. absurd (never a p.0));
   not_a_rate_exactly = (λ e. none, λ e. refl);
@@ -189,7 +189,7 @@ by_nearest h u (fin s m e) U = go (s && ltb 0 m) (compared s m e)
     D = mul-pos (down_pos e) U
 
     go : (t : Bool) → not_a_rate (fin s m e) ≡ t
-        → ByNearest h u (fin s m e) (cond t (Refused ReadingNotARate) (within_most (hundredths h u m e)))
+        → ByNearest h u (fin s m e) (cond t (Err ReadingNotARate) (within_most (hundredths h u m e)))
     go true t = by_none h u (fin s m e) t (λ a p. never_both t p.0)
     go false t =
         by_one h u (fin s m e) (hundredths h u m e) t (t, rounded_nearest (m * up e * h) (down e * u) D)

@@ -1,5 +1,6 @@
 -- The answer to a float goes by its exact value alone, with whatever fraction a / c that value is written.
 -- Assumes nothing.
+use Rattle.std.specs.Prelude.{Err}
 use mathlib.Core.Path.{◌≡◌, refl, sym, ap, ◌∙◌, subst}
 use mathlib.Core.Bool.{Bool, cond, ◌&&◌}
 use Prim.Native.Nat.{ℕ, zero, suc, ◌*◌, ◌<◌}
@@ -10,7 +11,6 @@ use lib.Ieee.Exact.{HasValue}
 use lib.Ieee.Fits.{up_pos, down_pos}
 use borrow.Author.Tests.{lt-ltb}
 use Rattle.refusal.specs.declared.Refusal.TheVariants.{ReadingNotARate}
-use Rattle.probe.specs.declared.RateAnswer.TheVariants.{Refused}
 use Rattle.probe.specs.Readings.{rounded, within_most, answer_in}
 use Rattle.probe.proofs.Rounding.{rounded_same}
 
@@ -31,7 +31,7 @@ in_hundredths : (n a c d h u : ℕ) → n * c ≡ a * d → n * h * (c * u) ≡ 
 in_hundredths n a c d h u e = mul-mul-mul_comm n h c u ∙ ap (λ (k : ℕ). k * (h * u)) e ∙ mul-mul-mul_comm a d h u
 
 pub value_decides : (h u : ℕ) (x : Float) (s : Bool) (a c : ℕ) → 0 < u → 0 < c → HasValue x s a c
-    → answer_in h u x ≡ cond (s && ltb 0 a) (Refused ReadingNotARate) (within_most (rounded (a * h) (c * u)))
+    → answer_in h u x ≡ cond (s && ltb 0 a) (Err ReadingNotARate) (within_most (rounded (a * h) (c * u)))
 unfolding answer_in
 value_decides h u nan s a c U C v = absurd v
 value_decides h u (inf t) s a c U C v = absurd v
@@ -41,6 +41,6 @@ value_decides h u (fin t m e) s a c U C v =
     let number : rounded (m * up e * h) (down e * u) ≡ rounded (a * h) (c * u) =
     rounded_same (m * up e * h) (down e * u) (a * h) (c * u) (mul-pos (down_pos e) U) (mul-pos C U)
     (in_hundredths (m * up e) a c (down e) h u v.1) in
-    ap (λ (b : Bool). cond (b && ltb 0 m) (Refused ReadingNotARate) (within_most (rounded (m * up e * h) (down e * u)))) sign
-    ∙ ap (λ (b : Bool). cond (s && b) (Refused ReadingNotARate) (within_most (rounded (m * up e * h) (down e * u)))) digits
-    ∙ ap (λ (n : ℕ). cond (s && ltb 0 a) (Refused ReadingNotARate) (within_most n)) number
+    ap (λ (b : Bool). cond (b && ltb 0 m) (Err ReadingNotARate) (within_most (rounded (m * up e * h) (down e * u)))) sign
+    ∙ ap (λ (b : Bool). cond (s && b) (Err ReadingNotARate) (within_most (rounded (m * up e * h) (down e * u)))) digits
+    ∙ ap (λ (n : ℕ). cond (s && ltb 0 a) (Err ReadingNotARate) (within_most n)) number

@@ -1,6 +1,8 @@
 -- Rules, "Probe readings": what a reader is to believe of a reading's rate beyond its definition.
 -- Assumes nothing.
-use Rattle.std.specs.Prelude.{◌≡◌, ◌↔◌, Bool, true, false, ℕ, ◌+◌, ◌*◌, ◌≤◌, ◌<◌, pos, T, Float}
+use Rattle.units.specs.declared.Rate.{Rate}
+use Rattle.refusal.specs.declared.Refusal.{Refusal}
+use Rattle.std.specs.Prelude.{◌≡◌, ◌↔◌, Bool, true, false, ℕ, ◌+◌, ◌*◌, ◌≤◌, ◌<◌, pos, T, Float, Result}
 use Rattle.std.specs.Float.{nan, inf, fin}
 use Rattle.std.specs.Float.Ieee.{up, down, lt, le}
 use Rattle.refusal.specs.declared.Refusal.TheVariants.{ReadingNotARate, ReadingTooFast}
@@ -8,7 +10,6 @@ use Rattle.refusal.specs.Refusal.{number_of, granted}
 use Rattle.units.specs.Limits.{most_rate}
 use Rattle.probe.specs.declared.Reading.{Reading}
 use Rattle.probe.specs.declared.Reading.TheVariants.{InchesPerHour, MillimetresPerHour}
-use Rattle.probe.specs.declared.RateAnswer.{RateAnswer}
 use Rattle.probe.specs.Readings.{rounded, rate_of, given}
 
 -- two readings of the same unit, the second at least as large as the first
@@ -46,7 +47,7 @@ NearestIn hundredths units (fin minus m e) a =
 
 -- An answer to such a float: the rate a is granted exactly where it is the nearest hundredth and at most 10,000; 11 is given exactly
 -- where the float is not a number, infinite or below zero, and 12 exactly where its nearest hundredth is above 10,000.
-pub record ByNearest (hundredths units : ℕ) (x : Float) (answer : RateAnswer) : Type 0 where
+pub record ByNearest (hundredths units : ℕ) (x : Float) (answer : Result Rate Refusal) : Type 0 where
   pub granted_exactly : (a : ℕ) → (given answer ≡ (granted, a)) ↔ (NearestIn hundredths units x a × (a ≤ most_rate))
   pub not_a_rate_exactly : (given answer ≡ (number_of ReadingNotARate, 0)) ↔ (not_a_rate x ≡ true)
   pub too_fast_exactly : (given answer ≡ (number_of ReadingTooFast, 0)) ↔ ((a : ℕ) × NearestIn hundredths units x a × (most_rate < a))

@@ -1,11 +1,11 @@
 // Rules, "Probe readings": the exact value of a probe's float becomes a rate, with whole numbers alone.
 #![tactic(auto)]
 
-ghost use Rattle.std.specs.Prelude.{◌≡◌, ◌<◌};
+ghost use Rattle.std.specs.Prelude.{◌≡◌, ◌<◌, ◌≤◌};
 ghost use Rattle.std.specs.Float.{binary32};
 ghost use Rattle.std.specs.Float.Ieee.{of_bits};
 ghost use Rattle.probe.specs.Readings.{rounded, within_most, answer_in, rate_of};
-ghost use Rattle.probe.specs.Inner.{Scale, Parts, parts_answer};
+ghost use Rattle.probe.specs.Inner.{Parts, parts_answer};
 
 use refusal::Refusal;
 use units::{MOST_RATE, Rate};
@@ -14,12 +14,6 @@ use units::{MOST_RATE, Rate};
 pub enum Reading {
     InchesPerHour(f32),
     MillimetresPerHour(f32),
-}
-
-#[derive(Clone, Copy)]
-pub enum RateAnswer {
-    Granted(Rate),
-    Refused(Refusal),
 }
 
 // A float's 32 bits are its sign, then an exponent of 8 bits, then 23 digits. The sign alone is minus zero.
@@ -37,70 +31,84 @@ const FINEST: u32 = 149;
 // Halved so often, a float's digits come to less than half a hundredth in every unit.
 const FAINT: u32 = 40;
 
+// A unit of length that is a hundredth of an inch or longer, as a fraction of small numbers: so many `units` are so many
+// `hundredths` of an inch.
+#[derive(Clone, Copy)]
+struct Scale {
+    hundredths: u64,
+    units: u64,
+    ghost some: { 0 < units },
+    ghost long: { units ≤ hundredths },
+    ghost small: { hundredths ≤ 1_000 },
+}
+
 // The rate of a reading, refused 11 where it is none and 12 where it is too fast.
-pub fn rate(reading: Reading) -> RateAnswer
+pub fn rate(reading: Reading) -> Result<Rate, Refusal>
     ensures { result ≡ rate_of reading }
 {
     match reading {
-        Reading::InchesPerHour(x) => of_float(x, 100, 1),
-        Reading::MillimetresPerHour(x) => of_float(x, 1_000, 254),
+        Reading::InchesPerHour(x) => Scale::INCHES.of_float(x),
+        Reading::MillimetresPerHour(x) => Scale::MILLIMETRES.of_float(x),
     }
 }
 
-// A float of which so many `units` are so many `hundredths` of an inch. What is not a number has no bits of
-// its own; it alone differs from itself.
-fn of_float(x: f32, hundredths: u64, units: u64) -> RateAnswer
-    requires { Scale hundredths units }
-    ensures { result ≡ answer_in hundredths units x }
-{
-    if x != x {
-        return RateAnswer::Refused(Refusal::ReadingNotARate);
-    }
-    of_bits(f32::to_bits(x), hundredths, units)
-}
+impl Scale {
+    // An inch is 25.4 mm.
+    const INCHES: Scale = Scale {
+        hundredths: 100,
+        units: 1,
+    };
 
-// The float that the bits stand for.
-fn of_bits(bits: u32, hundredths: u64, units: u64) -> RateAnswer
-    requires { Scale hundredths units }
-    ensures { result ≡ answer_in hundredths units (of_bits binary32 bits) }
-{
-    if MINUS_ZERO < bits {
-        return RateAnswer::Refused(Refusal::ReadingNotARate);
-    }
-    if bits == MINUS_ZERO {
-        return RateAnswer::Granted(Rate(0));
-    }
-    if INFINITE <= bits {
-        return RateAnswer::Refused(Refusal::ReadingNotARate);
-    }
-    let digits = bits % LEADING;
-    let exponent = bits / LEADING;
-    if exponent == 0 {
-        return of_parts(digits, 0, hundredths, units);
-    }
-    of_parts(LEADING + digits, exponent - 1, hundredths, units)
-}
+    const MILLIMETRES: Scale = Scale {
+        hundredths: 1_000,
+        units: 254,
+    };
 
-// The value digits * 2^twos / 2^149. Where twos is 149 or more it is too fast in every unit.
-fn of_parts(digits: u32, twos: u32, hundredths: u64, units: u64) -> RateAnswer
-    requires scale { Scale hundredths units }
-    requires parts { Parts digits twos }
-    ensures { result ≡ parts_answer hundredths units digits twos }
-{
-    if FINEST <= twos {
-        return RateAnswer::Refused(Refusal::ReadingTooFast);
+    // The rate of a float in this unit. What is not a number has no bits of its own; it alone differs from itself.
+    fn of_float(self, x: f32) -> Result<Rate, Refusal>
+        ensures { result ≡ answer_in self.hundredths self.units x }
+    {
+        if x != x {
+            return Err(Refusal::ReadingNotARate);
+        }
+        self.of_bits(f32::to_bits(x))
     }
-    let halvings = FINEST - twos;
-    if FAINT <= halvings {
-        return within_most(0);
-    }
-    within_most(rounded(wide(digits) * hundredths, units << halvings))
-}
 
-fn wide(n: u32) -> u64
-    ensures { result ≡ n }
-{
-    n as u64
+    // The rate of the float that the bits stand for.
+    fn of_bits(self, bits: u32) -> Result<Rate, Refusal>
+        ensures { result ≡ answer_in self.hundredths self.units (of_bits binary32 bits) }
+    {
+        if MINUS_ZERO < bits {
+            return Err(Refusal::ReadingNotARate);
+        }
+        if bits == MINUS_ZERO {
+            return Ok(Rate(0));
+        }
+        if INFINITE <= bits {
+            return Err(Refusal::ReadingNotARate);
+        }
+        let digits = bits % LEADING;
+        let exponent = bits / LEADING;
+        if exponent == 0 {
+            return self.of_parts(digits, 0);
+        }
+        self.of_parts(LEADING + digits, exponent - 1)
+    }
+
+    // The rate of the value digits * 2^twos / 2^149. Where twos is 149 or more it is too fast in every unit.
+    fn of_parts(self, digits: u32, twos: u32) -> Result<Rate, Refusal>
+        requires { Parts digits twos }
+        ensures { result ≡ parts_answer self.hundredths self.units digits twos }
+    {
+        if FINEST <= twos {
+            return Err(Refusal::ReadingTooFast);
+        }
+        let halvings = FINEST - twos;
+        if FAINT <= halvings {
+            return within_most(0);
+        }
+        within_most(rounded(u64::from(digits) * self.hundredths, self.units << halvings))
+    }
 }
 
 // The whole number that n / d hundredths become: the nearest, an exact half going down.
@@ -118,11 +126,11 @@ fn rounded(n: u64, d: u64) -> u64
 
 // What was rounded is the rate, unless it is over the largest.
 #[tactic(auto, using(crate::proofs::Parts::granted_within))]
-fn within_most(hundredths: u64) -> RateAnswer
+fn within_most(hundredths: u64) -> Result<Rate, Refusal>
     ensures { result ≡ within_most hundredths }
 {
     if hundredths <= MOST_RATE {
-        return RateAnswer::Granted(Rate(hundredths));
+        return Ok(Rate(hundredths));
     }
-    RateAnswer::Refused(Refusal::ReadingTooFast)
+    Err(Refusal::ReadingTooFast)
 }

@@ -1,43 +1,34 @@
 -- The answers of a published practice are those of its sheet, or 4.
 -- Assumes nothing.
 use Prim.Native.Nat.{ℕ}
-use mathlib.Core.List.{List}
-use mathlib.Core.Path.{◌≡◌}
+use mathlib.Core.Path.{◌≡◌, ap}
+use Rattle.std.specs.Prelude.{Ok, Err}
 use Rattle.refusal.specs.declared.Refusal.{Refusal}
 use Rattle.units.specs.declared.Nutrient.{Nutrient}
+use Rattle.sheet.specs.declared.Sheet.{Sheet}
 use Rattle.curve.specs.declared.Mode.{Mode}
-use Rattle.curve.specs.declared.PercentAnswer.{PercentAnswer}
-use Rattle.curve.specs.declared.PercentAnswer.TheVariants as percent
-use Rattle.curve.specs.declared.Reached.{Reached}
-use Rattle.curve.specs.declared.Reached.TheVariants as reach
-use Rattle.curve.specs.Answers.{percent_answer, reach_of}
-use Rattle.published.specs.Published.{all_sheets, percent_published, reach_published}
-use Rattle.published.specs.Inner.{list_depths, stretch, Standing, sheet_place}
-use Rattle.published.specs.declared.Place.{Place}
-use Rattle.published.specs.declared.Place.TheVariants.{At, Refused}
-use Rattle.published.proofs.Places.{found_published, found_standing, found_rates, found_percents, refused_why, refused_published, depths_in_lem}
+use Rattle.curve.specs.declared.SheetError.TheVariants as error
+use Rattle.curve.specs.Answers.{PercentAnswer, ReachAnswer, percent_answer, reach_of}
+use Rattle.published.specs.Published.{Lists, sheet_of, percent_published, reach_published}
+use Rattle.published.proofs.Sheets.{sheet_told, none_told}
 
-pub stands : (practice : ℕ) (nutrient : Nutrient) {place : Place} {r p e : ℕ} {all : List ℕ} → place ≡ sheet_place practice nutrient → place ≡ At r p e
-    → all ≡ all_sheets → Standing all r p e
-stands practice nutrient told found is = rw is (found_standing practice nutrient told found)
-
-module _ (practice : ℕ) (nutrient : Nutrient) (mode : Mode) (rate : ℕ) {place : Place} (told : place ≡ sheet_place practice nutrient) where
-  module _ {r p e : ℕ} (found : place ≡ At r p e) {all : List ℕ} (is : all ≡ all_sheets) where
-    pub percent_found : (d : ℕ) {a : PercentAnswer} → a ≡ percent_answer (list_depths all) (stretch all r p) (stretch all p e) mode rate d
+module _ (practice : ℕ) (nutrient : Nutrient) (mode : Mode) (rate : ℕ) where
+  module _ (s : Sheet) (told : Ok (s.depths.now, s.rates.now, s.percents.now) ≡ sheet_of practice nutrient) where
+    pub percent_found : (d : ℕ) {a : PercentAnswer} → a ≡ percent_answer s.depths.now s.rates.now s.percents.now mode rate d
         → a ≡ percent_published practice nutrient mode rate d
     percent_found d h =
-        rw (found_published practice nutrient told found)
-        (rw (is, depths_in_lem, found_rates practice nutrient told found, found_percents practice nutrient told found) at h)
+        let t = sheet_told practice nutrient told in
+        rw t.0 (rw (ap (λ (l : Lists). l.0) t.1, ap (λ (l : Lists). l.1) t.1, ap (λ (l : Lists). l.2) t.1) at h)
 
-    pub reach_found : (t : ℕ) {a : Reached} → a ≡ reach_of (list_depths all) (stretch all r p) (stretch all p e) mode rate t
-        → a ≡ reach_published practice nutrient mode rate t
-    reach_found t h =
-        rw (found_published practice nutrient told found)
-        (rw (is, depths_in_lem, found_rates practice nutrient told found, found_percents practice nutrient told found) at h)
+    pub reach_found : (target : ℕ) {a : ReachAnswer} → a ≡ reach_of s.depths.now s.rates.now s.percents.now mode rate target
+        → a ≡ reach_published practice nutrient mode rate target
+    reach_found target h =
+        let t = sheet_told practice nutrient told in
+        rw t.0 (rw (ap (λ (l : Lists). l.0) t.1, ap (λ (l : Lists). l.1) t.1, ap (λ (l : Lists). l.2) t.1) at h)
 
-  module _ {why : Refusal} (found : place ≡ Refused why) where
-    pub percent_none : (d : ℕ) → percent.Refused why ≡ percent_published practice nutrient mode rate d
-    percent_none d = rw (refused_published practice nutrient told found, refused_why practice nutrient told found)
+  module _ {why : Refusal} (told : Err why ≡ sheet_of practice nutrient) where
+    pub percent_none : (d : ℕ) → Err (error.Refused why) ≡ percent_published practice nutrient mode rate d
+    percent_none d = let t = none_told practice nutrient told in rw (t.0, t.1)
 
-    pub reach_none : (t : ℕ) → reach.Refused why ≡ reach_published practice nutrient mode rate t
-    reach_none t = rw (refused_published practice nutrient told found, refused_why practice nutrient told found)
+    pub reach_none : (target : ℕ) → Err (error.Refused why) ≡ reach_published practice nutrient mode rate target
+    reach_none target = let t = none_told practice nutrient told in rw (t.0, t.1)

@@ -19,7 +19,7 @@ use Rattle.curve.specs.Promises.{FasterIsNoLess}
 use Rattle.published.specs.Tables.{depths}
 use Rattle.published.specs.Published.{last_practice, rates_of, percents_of}
 use Rattle.published.specs.Promises.{NoneFallsWithRate}
-use Rattle.published.proofs.Places.{for_each, none_above}
+use Rattle.published.proofs.Sheets.{for_each, none_above}
 
 -- a percent is at most the one of the next rate at the same depth, where there is one
 abbrev no_less : List ℕ → ℕ → ℕ → Bool

@@ -1,4 +1,4 @@
-pub mod Places
+pub mod Sheets
 pub mod Passing
 pub mod Answering
 pub mod FasterRates

@@ -1,4 +1,3 @@
 pub mod Tables
 pub mod Published
 pub mod Promises
-pub mod Inner

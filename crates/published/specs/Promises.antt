@@ -1,6 +1,6 @@
 -- Rules, "Practices covered", and of their percents "How a percent was found": what is promised of the published sheets.
 -- Assumes nothing.
-use Rattle.std.specs.Prelude.{ℕ, ◌-◌, ◌≤◌, ◌<◌, true, false, ◌⊎◌, ◌↔◌, ◌≡◌, length, take, drop}
+use Rattle.std.specs.Prelude.{ℕ, ◌≤◌, ◌<◌, true, false, List, [], ◌⊎◌, ◌↔◌, ◌≡◌}
 use Rattle.refusal.specs.declared.Refusal.TheVariants.{NoPublishedSheet}
 use Rattle.refusal.specs.Refusal.{number_of, granted}
 use Rattle.units.specs.declared.Nutrient.{Nutrient}
@@ -11,8 +11,7 @@ use Rattle.curve.specs.declared.Basis.TheVariants.{Held}
 use Rattle.curve.specs.Basis.{basis_of}
 use Rattle.curve.specs.Promises.{FasterIsNoLess}
 use Rattle.published.specs.Tables.{depths}
-use Rattle.published.specs.Published.{last_practice, rates_of, percents_of, is_published, all_sheets, given}
-use Rattle.published.specs.Inner.{sheet_place}
+use Rattle.published.specs.Published.{last_practice, rates_of, percents_of, is_published, sheet_of, given}
 
 -- Every published sheet passes the test that lent sheets are put to.
 abbrev pub EverySheetPasses : Type 0
@@ -36,24 +35,23 @@ NeverHeld =
     (practice : ℕ) (nutrient : Nutrient) (mode : Mode) (r d : ℕ) → d ≤ highest_depth
     → basis_of depths (rates_of practice nutrient) mode r d ≡ Held → ⊥
 
--- The list of all sheets starts with the depths, and where the places of a practice's sheet are given, it holds the practice's rates from
--- the first place to the second, and its percents from there to the end.
-pub record Holds (practice : ℕ) (nutrient : Nutrient) (rates percents end : ℕ) : Type 0 where
-  pub depths_first : take (length depths) all_sheets ≡ depths
-  pub rates_there : take (percents - rates) (drop rates all_sheets) ≡ rates_of practice nutrient
-  pub percents_there : take (end - percents) (drop percents all_sheets) ≡ percents_of practice nutrient
+-- What is given for a practice has the depths of every table, and the practice's rates and percents.
+pub record Holds (practice : ℕ) (nutrient : Nutrient) (ds rs ps : List ℕ) : Type 0 where
+  pub depths_there : ds ≡ depths
+  pub rates_there : rs ≡ rates_of practice nutrient
+  pub percents_there : ps ≡ percents_of practice nutrient
 
 abbrev pub SheetStandsThere : Type 0
 SheetStandsThere =
-    (practice : ℕ) (nutrient : Nutrient) (rates percents end : ℕ) → given (sheet_place practice nutrient) ≡ (granted, rates, percents, end)
-    → Holds practice nutrient rates percents end
+    (practice : ℕ) (nutrient : Nutrient) (ds rs ps : List ℕ) → given (sheet_of practice nutrient) ≡ (granted, ds, rs, ps)
+    → Holds practice nutrient ds rs ps
 
 -- 4 is given exactly for a practice number above 8, or without a published column;
 abbrev pub FourExactly : Type 0
 FourExactly =
     (practice : ℕ) (nutrient : Nutrient)
-    → (given (sheet_place practice nutrient) ≡ (number_of NoPublishedSheet, 0, 0, 0)) ↔ ((last_practice < practice) ⊎ (is_published practice nutrient ≡ false))
+    → (given (sheet_of practice nutrient) ≡ (number_of NoPublishedSheet, [], [], [])) ↔ ((last_practice < practice) ⊎ (is_published practice nutrient ≡ false))
 
--- every other practice is granted its place.
+-- every other practice is granted its sheet.
 abbrev pub GrantedElse : Type 0
-GrantedElse = (practice : ℕ) (nutrient : Nutrient) → is_published practice nutrient ≡ true → (given (sheet_place practice nutrient)).0 ≡ granted
+GrantedElse = (practice : ℕ) (nutrient : Nutrient) → is_published practice nutrient ≡ true → (given (sheet_of practice nutrient)).0 ≡ granted

@@ -1,6 +1,6 @@
 -- Rules, "The numbers given back": the number of each refusal. 0 is kept for a granted answer.
 -- Assumes nothing.
-use Rattle.std.specs.Prelude.{ℕ}
+use Rattle.std.specs.Prelude.{ℕ, List, ◌++◌, codes, decimal}
 use Rattle.refusal.specs.declared.Refusal.{Refusal}
 use Rattle.refusal.specs.declared.Refusal.TheVariants as refused
 
@@ -26,3 +26,7 @@ number_of refused.NumbersSpent = 17
 -- what a granted answer gives in the place of a number
 abbrev pub granted : ℕ
 granted = 0
+
+-- a refusal as it is displayed
+abbrev pub text_of : Refusal → List ℕ
+text_of why = codes "refused " ++ decimal (number_of why)

@@ -14,7 +14,7 @@ use Rattle.text.proofs.Joining.{free_both, free_at, digits_free}
 use Rattle.curve.specs.Basis.{basis_number, basis_words}
 use Rattle.credit.specs.Answers.{Given}
 use Rattle.writing.specs.Lines.{line_with, line_of}
-use Rattle.answer.specs.declared.Outcome.{Outcome}
+use Rattle.answer.specs.Outcomes.{Outcome}
 use Rattle.answer.specs.Outcomes.{given, fault_line}
 use Rattle.answer.specs.Lines.{basis_word, granted_lines, refused_lines, answer_text}
 use Rattle.review.specs.Lines.{full_lines, Ended}

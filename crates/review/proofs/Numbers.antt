@@ -1,5 +1,6 @@
 -- The numbers of checks come out of the definitions.
 -- Assumes nothing.
+use Rattle.std.specs.Prelude.{Err}
 use Prim.Native.Nat.{ℕ, ◌<◌}
 use mathlib.Core.List.{List, flatten}
 use mathlib.Core.Path.{◌≡◌, refl, ◌∙◌, ap}
@@ -20,7 +21,7 @@ use Rattle.job.specs.Fault.{line_span}
 use Rattle.job.specs.Reading.{most_bytes, behind_head, reading_of}
 use Rattle.writing.specs.Lines.{line_with}
 use Rattle.answer.specs.Lines.{answer_text}
-use Rattle.answer.specs.declared.Outcome.TheVariants.{Refused}
+use Rattle.answer.specs.declared.Failure.TheVariants.{Refused}
 use Rattle.calculator.specs.Outcome.{by_tables, outcome_of}
 use Rattle.calculator.proofs.Sample.{sample_answered}
 use Rattle.review.specs.Checking.{checked_of, answer_for}
@@ -30,7 +31,7 @@ pub sample_checked : SampleChecked
 unfolding checked_of same_of agreed_of pieces joined line_span start_of index_of part_of
 sample_checked = rw sample_answered refl
 
-refused_outcome : outcome_of by_tables refused_job ≡ Refused MalformedText 8
+refused_outcome : outcome_of by_tables refused_job ≡ Err (Refused MalformedText 8)
 unfolding judged_from rises_to judged add_answer added_to added part_of index_of joined pieces same_of place_from digits_from numeral_of value_of head_from head_of sub_area_from sub_area_of added_line areas_from behind_head reading_of outcome_of
 refused_outcome = refl
 
@@ -42,7 +43,7 @@ pub refused_job_checked : RefusedJobChecked
 unfolding checked_of same_of agreed_of pieces joined line_span start_of index_of part_of
 refused_job_checked = rw refused_answered refl
 
-long_outcome : (job : List ℕ) → most_bytes < length job → outcome_of by_tables job ≡ Refused MalformedText 0
+long_outcome : (job : List ℕ) → most_bytes < length job → outcome_of by_tables job ≡ Err (Refused MalformedText 0)
 unfolding reading_of outcome_of
 long_outcome job h = simp (lt-ltb most_bytes (length job) h)
 

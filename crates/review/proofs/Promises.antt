@@ -23,8 +23,8 @@ use Rattle.answer.specs.Lines.{granted_lines, refused_lines, answer_text}
 use Rattle.writing.specs.Writing.{buffer_of, written_given}
 use Rattle.writing.proofs.Writing.{refused_answer, granted_answer, buffer_holds}
 use Rattle.calculator.specs.Outcome.{by_tables, outcome_of}
-use Rattle.review.specs.declared.Checked.{Checked}
-use Rattle.review.specs.declared.Checked.TheVariants.{Right}
+use Rattle.std.specs.Prelude.{Result, Ok}
+use Rattle.review.specs.declared.WrongLine.{WrongLine}
 use Rattle.review.specs.Checking.{wrong_line, checked_of, answer_for, given}
 use Rattle.review.specs.Lines.{full_lines, Ended}
 use Rattle.review.specs.Promises.{YesExactly, FirstWrongLine, LineLiesAt, FirstWrong, StopsEarly, UnendedIsWrong, RightIsEnded, LastUnended, PastTheEnd, LinesOfTheRules, RefusedChecked, OurOwn, OneAnswer}
@@ -35,7 +35,7 @@ use Rattle.review.proofs.AnswerLines.{whole_lines, granted_whole, refused_whole,
 
 -- what is given back for any two texts
 module _ (ours claimed : List ℕ) where
-  given_right : same_of ours claimed ≡ true → checked_of ours claimed ≡ Right
+  given_right : same_of ours claimed ≡ true → checked_of ours claimed ≡ Ok tt
   unfolding checked_of
   given_right h = rw h
 
@@ -53,14 +53,14 @@ module _ (ours claimed : List ℕ) where
       (λ (h : same_of ours claimed ≡ false). let f = ap (λ (p : ℕ × Span). p.0) (given_wrong h line_number) in absurd (omega arith))
       (passes_or_fails (same_of ours claimed))
 
-  right_equal : checked_of ours claimed ≡ Right → claimed ≡ ours
-  right_equal e = zero_equal (ap (λ (c : Checked). (given claimed c).0) e)
+  right_equal : checked_of ours claimed ≡ Ok tt → claimed ≡ ours
+  right_equal e = zero_equal (ap (λ (c : Result (Unit {0}) WrongLine). (given claimed c).0) e)
 
-  equal_right : claimed ≡ ours → checked_of ours claimed ≡ Right
+  equal_right : claimed ≡ ours → checked_of ours claimed ≡ Ok tt
   equal_right e = given_right (rw e (same_itself ours))
 
   -- no line is given with a yes
-  never_right : {k : ℕ} {place : Span} → given claimed (checked_of ours claimed) ≡ (suc k, place) → checked_of ours claimed ≡ Right → ⊥
+  never_right : {k : ℕ} {place : Span} → given claimed (checked_of ours claimed) ≡ (suc k, place) → checked_of ours claimed ≡ Ok tt → ⊥
   never_right e r = let z = ap (λ (p : ℕ × Span). p.0) (sym e ∙ ap (given claimed) r) in omega arith
 
 pub yes_exactly : YesExactly
@@ -158,7 +158,7 @@ stops_early ours claimed k = (forth, back)
         let front = flatten (take k (full_lines claimed)) in
         let all : claimed ≡ front = no_more front (flatten (drop k (full_lines claimed))) (lines_parted claimed k) w.1.begins in
         let ours-so : claimed ≡ flatten (take k lines) = all ∙ ap flatten w.0.same in
-        let yes : length lines ≤ k → checked_of ours claimed ≡ Right = λ l. equal_right ours claimed (ours-so ∙ ap flatten (take_all k lines l) ∙ lines_together ours) in (
+        let yes : length lines ≤ k → checked_of ours claimed ≡ Ok tt = λ l. equal_right ours claimed (ours-so ∙ ap flatten (take_all k lines l) ∙ lines_together ours) in (
           ⊎_elim (λ (l : k < length lines). l) (λ (l : length lines ≤ k). absurd (never_right ours claimed e (yes l))) (lt_or_le k (length lines)),
           ours-so,
         )

@@ -1,8 +1,8 @@
 -- Rules, "Checking an answer": what is promised of a check, for every job text and every claimed text. Where a statement is about any
 -- text `ours`, that is, for a check, the text that the rules give for its job. That the part which is handed back lies in their own text
--- is the contract of `wrong_line`; that nothing is refused is the type `Checked`. Proved in proofs/Promises.antt.
+-- is the contract of `wrong_line`; that a check always tells one or the other is its type. Proved in proofs/Promises.antt.
 -- Assumes nothing.
-use Rattle.std.specs.Prelude.{ℕ, suc, ◌-◌, ◌≤◌, ◌<◌, ◌⊎◌, ◌↔◌, ◌≡◌, cond, eqb, length, get_or, take}
+use Rattle.std.specs.Prelude.{ℕ, suc, ◌-◌, ◌≤◌, ◌<◌, ◌⊎◌, ◌↔◌, ◌≡◌, cond, eqb, length, get_or, take, Ok}
 use mathlib.Core.List.{List, [], ◌∷◌, ◌++◌, flatten}
 use Rattle.laws.specs.Text.{bytes}
 use Rattle.refusal.specs.Refusal.{granted}
@@ -10,22 +10,21 @@ use Rattle.text.specs.Part.{part_of}
 use Rattle.text.specs.Pieces.{line_feed, before_of}
 use Rattle.job.specs.declared.Span.{Span}
 use Rattle.job.specs.Fault.{at_the_end}
-use Rattle.answer.specs.declared.Outcome.{Outcome}
+use Rattle.answer.specs.Outcomes.{Outcome}
 use Rattle.answer.specs.Outcomes.{given as outcome_given, fault_line}
 use Rattle.answer.specs.Lines.{granted_lines, refused_lines, answer_text}
 use Rattle.writing.specs.Lines.{line_of}
 use Rattle.writing.specs.Writing.{written_of, buffer_of, written_given}
 use Rattle.calculator.specs.Outcome.{by_tables}
 use Rattle.calculator.specs.Promises.{Answered, FaultLine}
-use Rattle.review.specs.declared.Checked.TheVariants.{Right}
 use Rattle.review.specs.Checking.{checked_of, answer_for, check_of, given}
 use Rattle.review.specs.Lines.{full_lines, Ended}
 
--- A yes exactly when the answer text is what the rules give for the job: a yes by the case `Right`, and by the number 0.
+-- A yes exactly when the answer text is what the rules give for the job: a yes by the case `Ok`, and by the number 0.
 abbrev pub YesExactly : Type 0
 YesExactly =
     (job claimed : List ℕ)
-    → ((check_of job claimed ≡ Right) ↔ (claimed ≡ answer_for job))
+    → ((check_of job claimed ≡ Ok tt) ↔ (claimed ≡ answer_for job))
     × (((given claimed (check_of job claimed)).0 ≡ 0) ↔ (claimed ≡ answer_for job))
 
 -- Line k + 1 of the claimed text is its first wrong line:
@@ -72,7 +71,7 @@ UnendedIsWrong =
 
 -- No text with such a line at its end is right,
 abbrev pub RightIsEnded : Type 0
-RightIsEnded = (job claimed : List ℕ) → check_of job claimed ≡ Right → Ended claimed
+RightIsEnded = (job claimed : List ℕ) → check_of job claimed ≡ Ok tt → Ended claimed
 
 -- and where nothing but the last LF of ours is missing, the part is the whole last line.
 abbrev pub LastUnended : Type 0
@@ -111,8 +110,8 @@ abbrev pub OurOwn : Type 0
 OurOwn =
     (job buf : List ℕ) (n : ℕ)
     → written_given (written_of buf (answer_for job)) ≡ (granted, n)
-    → check_of job (take n (buffer_of buf (answer_for job))) ≡ Right
+    → check_of job (take n (buffer_of buf (answer_for job))) ≡ Ok tt
 
 -- and one text that is right for two jobs says that their answers are the same.
 abbrev pub OneAnswer : Type 0
-OneAnswer = (job other claimed : List ℕ) → check_of job claimed ≡ Right → check_of other claimed ≡ Right → answer_for job ≡ answer_for other
+OneAnswer = (job other claimed : List ℕ) → check_of job claimed ≡ Ok tt → check_of other claimed ≡ Ok tt → answer_for job ≡ answer_for other

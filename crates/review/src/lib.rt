@@ -2,25 +2,25 @@
 // wrong line.
 #![tactic(auto)]
 
-ghost use Rattle.std.specs.Prelude.{◌≡◌, ◌+◌, ◌≤◌, cond, eqb, length};
+ghost use Rattle.std.specs.Prelude.{◌≡◌, ◌==◌, count_by};
 ghost use Rattle.text.specs.Part.{Part};
-ghost use Rattle.text.specs.Pieces.{line_feed, pieces};
+ghost use Rattle.text.specs.Pieces.{line_feed};
 ghost use Rattle.writing.specs.Writing.{written_given};
 ghost use Rattle.review.specs.Checking.{checked_of, check_of, wrong_span};
 ghost use Rattle.review.specs.Inner.{wrong_behind};
 
-use writing::Written;
+use refusal::Refusal;
 
-#[derive(Clone, Copy)]
-pub enum Checked {
-    // The claimed text is ours, byte for byte.
-    Right,
-    // The number of the wrong line, counted from 1, and its place in the claimed text without its line feed.
-    Wrong { line: usize, from: usize, to: usize },
+// The first wrong line of a claimed text: its number, counted from 1, and its place without its line feed.
+#[derive(Clone, Copy, Debug, PartialEq, Eq)]
+pub struct WrongLine {
+    pub line: usize,
+    pub from: usize,
+    pub to: usize,
 }
 
-// An answer text against the one that the rules give for a job.
-pub fn check(job: &[u8], claimed: &[u8]) -> Checked
+// An answer text against the one that the rules give for a job: right where it is that one, byte for byte.
+pub fn check(job: &[u8], claimed: &[u8]) -> Result<(), WrongLine>
     ensures { result ≡ check_of job.now claimed.now }
 {
     let mut ours = [0u8; answer::LONGEST];
@@ -33,44 +33,42 @@ pub fn check(job: &[u8], claimed: &[u8]) -> Checked
 pub fn wrong_line<'a>(job: &[u8], claimed: &'a [u8]) -> &'a [u8]
     ensures { Part claimed.entry (wrong_span job.now claimed.now).from (wrong_span job.now claimed.now).to result }
 {
-    let found = check(job, claimed);
-    match found {
-        Checked::Right => text::part(claimed, claimed.len(), claimed.len()),
-        Checked::Wrong { line: _, from, to } => text::part(claimed, from, to),
+    match check(job, claimed) {
+        Ok(()) => text::part(claimed, claimed.len(), claimed.len()),
+        Err(wrong) => text::part(claimed, wrong.from, wrong.to),
     }
 }
 
 // A claimed text against ours.
-pub fn compare(ours: &[u8], claimed: &[u8]) -> Checked
+#[tactic(auto, using(crate::proofs::Comparing::wrong_in_ours, crate::proofs::Comparing::wrong_in_claimed, crate::proofs::Comparing::right_in_both))]
+pub fn compare(ours: &[u8], claimed: &[u8]) -> Result<(), WrongLine>
     ensures { result ≡ checked_of ours.now claimed.now }
 {
     let agreed = text::agreed(ours, claimed);
-    if agreed < ours.len() {
-        return wrong(claimed, agreed);
+    if agreed < ours.len() || agreed < claimed.len() {
+        return Err(wrong(claimed, agreed));
     }
-    if agreed < claimed.len() {
-        return wrong(claimed, agreed);
-    }
-    Checked::Right
+    Ok(())
 }
 
-// The length of what was written, 0 beside a refusal.
-fn length_of(written: Written) -> usize
+// The length of what was written, 0 beside a refusal: the function that written_given defines, which the proof of check cites.
+fn length_of(written: Result<usize, Refusal>) -> usize
     ensures { result ≡ (written_given written).1 }
 {
     match written {
-        Written::Granted(length) => length,
-        Written::Refused(_) => 0,
+        Ok(length) => length,
+        Err(_) => 0,
     }
 }
 
 // The line of the claimed text that is wrong, where so many of its bytes are right.
-fn wrong(claimed: &[u8], agreed: usize) -> Checked
+#[tactic(auto, using(crate::proofs::Counting::feeds_within, crate::proofs::Comparing::line_told))]
+fn wrong(claimed: &[u8], agreed: usize) -> WrongLine
     ensures { result ≡ wrong_behind claimed.now agreed }
 {
     let ended = feeds(text::part(claimed, 0, agreed));
     let from = text::start(claimed, b'\n', ended);
-    Checked::Wrong {
+    WrongLine {
         line: ended + 1,
         from,
         to: text::next(claimed, b'\n', from),
@@ -79,20 +77,7 @@ fn wrong(claimed: &[u8], agreed: usize) -> Checked
 
 // How many line feeds a text holds.
 fn feeds(s: &[u8]) -> usize
-    ensures { (result + 1 ≡ length (pieces line_feed s.now)) × (result ≤ length s.now) }
+    ensures { result ≡ count_by (λ x. x == line_feed) s.now }
 {
-    let mut count = 0;
-    let mut i = 0;
-    while i < s.len() {
-        count += one_for_feed(s[i]);
-        i += 1;
-    }
-    count
-}
-
-// 1 for a line feed, and 0 for any other byte.
-fn one_for_feed(x: u8) -> usize
-    ensures { result ≡ cond (eqb x line_feed) 1 0 }
-{
-    if x == b'\n' { 1 } else { 0 }
+    s.iter().filter(|x| **x == b'\n').count()
 }

@@ -1,5 +1,7 @@
 -- What every text gives back beside what the old rules gave: the same number, line and load, and no smaller volume.
 -- Assumes nothing.
+use Rattle.std.specs.Prelude.{Result, Ok, Err}
+use Rattle.units.specs.declared.Area.{Area}
 use Prim.Native.Nat.{ℕ, ◌≤◌, ◌<◌}
 use mathlib.Core.Bool.{Bool, true, false}
 use mathlib.Core.List.{List, [], ◌∷◌}
@@ -18,8 +20,6 @@ use Rattle.units.specs.declared.Nutrient.{Nutrient}
 use Rattle.units.specs.Limits.{most_area, largest, most_percent, highest_depth, grid_depths}
 use Rattle.site.specs.declared.Site.{Site}
 use Rattle.site.specs.declared.SubArea.{SubArea}
-use Rattle.site.specs.declared.AreaAnswer.{AreaAnswer}
-use Rattle.site.specs.declared.AreaAnswer.TheVariants as area
 use Rattle.site.specs.Parts.{parts_of, total_area, impervious_area}
 use Rattle.site.specs.Judging.{judged, after_judging}
 use Rattle.site.proofs.Judging.{judged_fine}
@@ -29,27 +29,24 @@ use Rattle.volume.specs.Volume.{volume_of}
 use Rattle.volume.proofs.Promises.{fits}
 use Rattle.curve.specs.declared.Mode.{Mode}
 use Rattle.curve.specs.declared.Basis.{Basis}
-use Rattle.curve.specs.declared.Admission.{Admission}
-use Rattle.curve.specs.declared.Admission.TheVariants as admission
+use Rattle.curve.specs.declared.SheetError.TheVariants.{Unfit, Refused}
 use Rattle.curve.specs.Curve.{percent_at, depth_reaching}
 use Rattle.curve.specs.Basis.{basis_at}
-use Rattle.curve.specs.Answers.{admission_of, after_admission}
+use Rattle.curve.specs.Answers.{Admission, refused, admission_of, after_admission}
 use Rattle.published.specs.Tables.{depths}
 use Rattle.published.specs.Published.{rates_of, percents_of, is_published}
-use Rattle.credit.specs.declared.CreditAnswer.{CreditAnswer}
-use Rattle.credit.specs.declared.CreditAnswer.TheVariants.{BadSheet, Refused}
 use Rattle.credit.specs.declared.Wanted.{Wanted}
 use Rattle.credit.specs.declared.Wanted.TheVariants as wanted
-use Rattle.credit.specs.Credit.{tried, credit_by, size_by}
+use Rattle.credit.specs.Credit.{CreditAnswer, tried, credit_by, size_by}
 use Rattle.credit.specs.Answers.{Sheet, lent, published, credit, size, worked, on_sheet, by_sheet, answer_by, answer_of, Given, given}
 use Rattle.credit.proofs.Passing.{Pass, credited, sized, reached}
 use Rattle.job.specs.declared.Job.{Job}
 use Rattle.job.specs.declared.Task.{Task}
 use Rattle.job.specs.declared.Task.TheVariants.{Load, Credit, Size}
-use Rattle.job.specs.declared.JobAnswer.{JobAnswer}
-use Rattle.job.specs.declared.JobAnswer.TheVariants as job
+use Rattle.job.specs.declared.Reading.{Reading}
+use Rattle.job.specs.declared.Unread.{Unread}
 use Rattle.job.specs.Reading.{reading_of}
-use Rattle.answer.specs.declared.Outcome.{Outcome}
+use Rattle.answer.specs.Outcomes.{Outcome}
 use Rattle.answer.specs.Outcomes.{given as outcome_given, fault_line}
 use Rattle.calculator.specs.Outcome.{of_credit, of_task, of_task_by, of_reading, outcome_of}
 use Rattle.calculator.proofs.InTexts.{same_given, no_line}
@@ -66,10 +63,10 @@ same g = record { answer = refl; list = refl; place = refl; load = refl; volume 
 
 -- The same tests in turn: where they all pass what follows decides, else the refusal is the same.
 in_turn_lem : (tests : List (Bool × Refusal)) (a b : CreditAnswer) → (Pass tests → NotSmaller (given a) (given b))
-    → NotSmaller (given (in_turn Refused a tests)) (given (in_turn Refused b tests))
+    → NotSmaller (given (in_turn refused a tests)) (given (in_turn refused b tests))
 in_turn_lem [] a b h = h tt
 in_turn_lem ((true, why) ∷ tests) a b h = in_turn_lem tests a b (λ p. h (refl, p))
-in_turn_lem ((false, why) ∷ tests) a b h = same (given (Refused why))
+in_turn_lem ((false, why) ∷ tests) a b h = same (given (refused why))
 
 -- A target that is reached at depth 200 is reached on the grid.
 on_grid_lem : (percents : ℕ → ℕ) (target : ℕ) → target ≤ percents highest_depth → depth_reaching percents target ≤ highest_depth
@@ -89,9 +86,9 @@ module _ (old new : ℕ → ℕ) (below : (d : ℕ) → d ≤ highest_depth → 
 
   tests_before : (a b : CreditAnswer) (load impervious : ℕ) (in_range : Bool) (last : List (Bool × Refusal))
       → (Pass (tried load impervious new in_range last) → NotSmaller (given a) (given b))
-      → NotSmaller (given (in_turn Refused a (tried load impervious old in_range last))) (given (in_turn Refused b (tried load impervious new in_range last)))
+      → NotSmaller (given (in_turn refused a (tried load impervious old in_range last))) (given (in_turn refused b (tried load impervious new in_range last)))
   tests_before a b load impervious in_range last h =
-      subst (λ (tests : List (Bool × Refusal)). NotSmaller (given (in_turn Refused a tests)) (given (in_turn Refused b (tried load impervious new in_range last))))
+      subst (λ (tests : List (Bool × Refusal)). NotSmaller (given (in_turn refused a tests)) (given (in_turn refused b (tried load impervious new in_range last))))
       (sym (same_tests load impervious in_range last))
       (in_turn_lem (tried load impervious new in_range last) a b h)
 
@@ -114,10 +111,10 @@ module _ (old new : ℕ → ℕ) (below : (d : ℕ) → d ≤ highest_depth → 
   on_sheet_before w load impervious ds rs ps mode r = at (admission_of ds rs ps mode r)
     where
       at : (x : Admission)
-          → NotSmaller (given (after_admission BadSheet Refused (λ c. worked w load impervious old (percent_at ds ps c) (basis_at ds c)) x)) (given (after_admission BadSheet Refused (λ c. worked w load impervious new (percent_at ds ps c) (basis_at ds c)) x))
-      at (admission.Admitted c) = worked_before w load impervious (percent_at ds ps c) (basis_at ds c)
-      at (admission.BadSheet list place) = same (given (BadSheet list place))
-      at (admission.Refused why) = same (given (Refused why))
+          → NotSmaller (given (after_admission (λ c. worked w load impervious old (percent_at ds ps c) (basis_at ds c)) x)) (given (after_admission (λ c. worked w load impervious new (percent_at ds ps c) (basis_at ds c)) x))
+      at (Ok c) = worked_before w load impervious (percent_at ds ps c) (basis_at ds c)
+      at (Err (Unfit fault)) = same (given (Err (Unfit fault)))
+      at (Err (Refused why)) = same (given (refused why))
 
 -- What crediting and sizing give back for a site,
 module _ (w : Wanted) (n : Nutrient) (mode : Mode) (r : ℕ) where
@@ -133,10 +130,10 @@ module _ (w : Wanted) (n : Nutrient) (mode : Mode) (r : ℕ) where
   unfolding answer_of
   answer_before sheet s = at (judged s) refl
     where
-      at : (x : AreaAnswer) → judged s ≡ x
-          → NotSmaller (given (after_judging Refused (λ total. by_sheet old_volume_of sheet w n (parts_of s) mode r) x)) (given (after_judging Refused (λ total. by_sheet volume_of sheet w n (parts_of s) mode r) x))
-      at (area.Granted total) e = sheet_before sheet (parts_of s) (judged_fine s total e).total
-      at (area.Refused why) e = same (given (Refused why))
+      at : (x : Result Area Refusal) → judged s ≡ x
+          → NotSmaller (given (after_judging refused (λ total. by_sheet old_volume_of sheet w n (parts_of s) mode r) x)) (given (after_judging refused (λ total. by_sheet volume_of sheet w n (parts_of s) mode r) x))
+      at (Ok total) e = sheet_before sheet (parts_of s) (judged_fine s total e).total
+      at (Err why) e = same (given (refused why))
 
   asked_before : (sheet : Sheet) (s : Site) → Before (of_credit (answer_by old_volume_of sheet w n s mode r)) (of_credit (answer_of sheet w n s mode r))
   asked_before sheet s =
@@ -152,8 +149,8 @@ task_before Size sheet j s = asked_before (size j.amount) j.nutrient j.mode j.ra
 
 pub as_before : AsBefore
 unfolding outcome_of
-as_before sheet text = at (reading_of text).answer
+as_before sheet text = at (reading_of text)
   where
-    at : (a : JobAnswer) → Before (of_reading (answer_by old_volume_of) sheet (reading_of text).site a) (of_reading answer_of sheet (reading_of text).site a)
-    at (job.Granted j) = task_before j.task (sheet j.practice) j (reading_of text).site
-    at (job.Refused why k) = (same (given (Refused why)), refl)
+    at : (a : Result Reading Unread) → Before (of_reading (answer_by old_volume_of) sheet a) (of_reading answer_of sheet a)
+    at (Ok r) = task_before r.job.task (sheet r.job.practice) r.job r.site
+    at (Err u) = (same (given (refused u.why)), refl)

@@ -1,5 +1,6 @@
 -- A text changed in its place, byte by byte.
 -- Assumes nothing.
+use Rattle.std.specs.Prelude.{Result, Ok, Err, is_ok, true, false}
 use Prim.Native.Nat.{ℕ, suc, ◌+◌, ◌≤◌, ◌<◌}
 use mathlib.Core.Path.{◌≡◌, refl, sym, ◌∙◌, ap}
 use mathlib.Core.List.{List, [], ◌∷◌, ◌++◌, map, map-append, append-nil}
@@ -8,19 +9,10 @@ use native.Mathlib.Numerals.{add-one}
 use native.Mathlib.Omega.{arith}
 use lib.ListN.{length, get_or, take, drop, set, length-set, length-map}
 use lib.Seq.{length-take-le, take_all, drop-length, take-suc, drop-cons, append_snoc, set_at, get_or_at}
-use borrow.Author.Tests.{eq-eqb, ne_eqb}
-use Rattle.refusal.specs.declared.Refusal.{Refusal}
-use Rattle.job.specs.declared.Job.{Job}
 use Rattle.job.specs.declared.Reading.{Reading}
-use Rattle.job.specs.declared.JobAnswer.TheVariants.{Granted, Refused}
+use Rattle.job.specs.declared.Unread.{Unread}
 use Rattle.job.specs.Reading.{reading_of}
-use Rattle.rewrite.specs.Rewriting.{letter_u, letter_c, c_for_u, rewritten_of}
-
-pub byte_u : {byte : ℕ} → byte ≡ letter_u → letter_c ≡ c_for_u byte
-byte_u {byte} e = rw (eq-eqb byte letter_u e)
-
-pub byte_other : {byte : ℕ} → (byte ≡ letter_u → ⊥) → byte ≡ c_for_u byte
-byte_other {byte} e = rw (ne_eqb byte letter_u e)
+use Rattle.rewrite.specs.Rewriting.{c_for_u, if_it_reads, rewritten_of}
 
 -- the first i bytes of a text have been changed
 pub record Changed (text after : List ℕ) (i : ℕ) : Type 0 where
@@ -64,11 +56,19 @@ module _ {text after : List ℕ} {i : ℕ} (c : Changed text after i) where
       c.holds ∙ rw (all, take_all (length text) text (omega arith), drop-length text) (append-nil (map c_for_u text))
 
 -- What was read of a text decides: it is changed, or stays as it came.
-module _ (text : List ℕ) {g : Reading} (told : g ≡ reading_of text) where
-  pub rewritten_read : {after : List ℕ} (j : Job) → g.answer ≡ Granted j → after ≡ map c_for_u text → after ≡ rewritten_of text
+module _ (text : List ℕ) {g : Result Reading Unread} (told : g ≡ reading_of text) where
+  pub rewritten_read : {after : List ℕ} → is_ok g ≡ true → after ≡ map c_for_u text → after ≡ rewritten_of text
   unfolding rewritten_of
-  rewritten_read j e h = rw (← told, e) h
+  rewritten_read {after} e h = rw (← told) (pick g e)
+    where
+      pick : (x : Result Reading Unread) → is_ok x ≡ true → after ≡ if_it_reads x text
+      pick (Ok r) e = h
+      pick (Err u) e = cc
 
-  pub rewritten_kept : (why : Refusal) (line : ℕ) → g.answer ≡ Refused why line → text ≡ rewritten_of text
+  pub rewritten_kept : is_ok g ≡ false → text ≡ rewritten_of text
   unfolding rewritten_of
-  rewritten_kept why line e = rw (← told, e)
+  rewritten_kept e = rw (← told) (pick g e)
+    where
+      pick : (x : Result Reading Unread) → is_ok x ≡ false → text ≡ if_it_reads x text
+      pick (Ok r) e = cc
+      pick (Err u) e = refl

@@ -1,13 +1,12 @@
 -- The fields of an area line that reads: with C for U all but the soil stay, and the soil becomes its C.
 -- Assumes nothing.
+use Rattle.std.specs.Prelude.{Some, None}
 use Prim.Native.Nat.{ℕ}
 use mathlib.Core.Bool.{true}
 use mathlib.Core.List.{List, [], ◌∷◌, ◌++◌, map, map-append}
 use mathlib.Core.Path.{◌≡◌, refl, sym, ◌∙◌, ap}
 use lib.ListN.{length, get_or}
 use Rattle.laws.specs.Text.{bytes}
-use Rattle.text.specs.declared.Found.TheVariants.{At, Nothing}
-use Rattle.text.specs.declared.Numeral.TheVariants.{Is}
 use Rattle.text.specs.Part.{part_of}
 use Rattle.text.specs.Pieces.{space, comma, index_of, before_of, after_of, joined, pieces}
 use Rattle.text.specs.Words.{same_of, opens_of, place_of}
@@ -38,10 +37,10 @@ area_field v = after_of comma (after_of comma (after_of comma v))
 
 -- what each of them says
 pub record Said (v : List ℕ) : Type 0 where
-  land : (l : ℕ) × (place_of land_words (land_field v) ≡ At l)
-  cover : (c : ℕ) × (place_of cover_words (cover_field v) ≡ At c)
-  soil : (o : ℕ) × (place_of soil_words (soil_field v) ≡ At o)
-  area : (a : ℕ) × (numeral_of (area_field v) ≡ Is a)
+  land : (l : ℕ) × (place_of land_words (land_field v) ≡ Some l)
+  cover : (c : ℕ) × (place_of cover_words (cover_field v) ≡ Some c)
+  soil : (o : ℕ) × (place_of soil_words (soil_field v) ≡ Some o)
+  area : (a : ℕ) × (numeral_of (area_field v) ≡ Some a)
 
 pub fields_said : (s : Site) (v : List ℕ) → Adds (added_line s (sub_area_of v)).answer → Said v
 unfolding sub_area_of
@@ -52,11 +51,11 @@ fields_said s v g =
     s _ _ _ _ g refl refl refl refl
 
 -- no field is empty
-no_word : (words : List ℕ) {j : ℕ} → place_of words [] ≡ Nothing → place_of words (before_of comma []) ≡ At j → ⊥
+no_word : (words : List ℕ) {j : ℕ} → place_of words [] ≡ None → place_of words (before_of comma []) ≡ Some j → ⊥
 unfolding part_of index_of
 no_word words none e = never_found (sym none ∙ e)
 
-no_area_lem : {n : ℕ} → numeral_of [] ≡ Is n → ⊥
+no_area_lem : {n : ℕ} → numeral_of [] ≡ Some n → ⊥
 unfolding numeral_of
 no_area_lem e = never_number e
 
@@ -78,11 +77,11 @@ module _ (v : List ℕ) (said : Said v) where
   -- The fields of the line, and of the line with C for U.
   value_fields : pieces comma v ≡ land_field v ∷ cover_field v ∷ soil_field v ∷ area_field v ∷ []
   value_fields =
-      first_field (λ t. place_of cover_words (before_of comma t) ≡ At said.cover.0) v said.cover.1 (no_word cover_words none_empty.5)
+      first_field (λ t. place_of cover_words (before_of comma t) ≡ Some said.cover.0) v said.cover.1 (no_word cover_words none_empty.5)
       ∙ ap (λ (ps : List (List ℕ)). land_field v ∷ ps)
-      (first_field (λ t. place_of soil_words (before_of comma t) ≡ At said.soil.0) (after_of comma v) said.soil.1 (no_word soil_words none_empty.6)
+      (first_field (λ t. place_of soil_words (before_of comma t) ≡ Some said.soil.0) (after_of comma v) said.soil.1 (no_word soil_words none_empty.6)
       ∙ ap (λ (ps : List (List ℕ)). cover_field v ∷ ps)
-      (first_field (λ t. numeral_of t ≡ Is said.area.0) (after_of comma (after_of comma v)) said.area.1 no_area_lem
+      (first_field (λ t. numeral_of t ≡ Some said.area.0) (after_of comma (after_of comma v)) said.area.1 no_area_lem
       ∙ ap (λ (ps : List (List ℕ)). soil_field v ∷ ps) (digits_whole (area_field v) (numeral_digits (area_field v) said.area.1))))
 
   pub line_fields : (line : List ℕ) → line ≡ bytes "area=" ++ v → SoilAlone line (map c_for_u line)

@@ -1,5 +1,6 @@
 -- The head of a text that reads has no U: with C for U its six lines stay, and say what they said.
 -- Assumes nothing.
+use Rattle.std.specs.Prelude.{Option, Some, None, ℕ}
 use Prim.Native.Nat.{ℕ, zero, suc, ◌<◌}
 use mathlib.Core.Bool.{true}
 use mathlib.Core.List.{List, [], ◌∷◌, map}
@@ -10,10 +11,6 @@ use lib.ListN.{get_or, take, drop}
 use lib.Seq.{get_or-drop}
 use Rattle.laws.specs.Text.{bytes}
 use Rattle.laws.proofs.Map.{drop_map}
-use Rattle.text.specs.declared.Found.{Found}
-use Rattle.text.specs.declared.Found.TheVariants.{At, Nothing}
-use Rattle.text.specs.declared.Numeral.{Numeral}
-use Rattle.text.specs.declared.Numeral.TheVariants.{Is}
 use Rattle.text.specs.Pieces.{space, pieces}
 use Rattle.text.specs.Words.{place_of}
 use Rattle.text.specs.Numbers.{numeral_of}
@@ -39,11 +36,11 @@ module _ (lines : List (List ℕ)) (k : ℕ) (key : List ℕ) where
   at_front : get_or (drop k lines) 0 [] ≡ get_or lines k []
   at_front = get_or-drop k lines 0 [] ∙ ap (λ (n : ℕ). get_or lines n []) (add-zero k)
 
-  word_line : free letter_u key ≡ true → (words : List ℕ) {j : ℕ} → all_free letter_u (pieces space words) ≡ true → place_of words [] ≡ Nothing → word_in lines k key words ≡ At j → Stays lines k
+  word_line : free letter_u key ≡ true → (words : List ℕ) {j : ℕ} → all_free letter_u (pieces space words) ≡ true → place_of words [] ≡ None → word_in lines k key words ≡ Some j → Stays lines k
   word_line f words w none e =
       rw at_front at (line_stays key (drop k lines) f (word_stays (pieces space words) value 0 w e) (λ z. never_found (sym none ∙ sym (ap (place_of words) z) ∙ e)))
 
-  number_line_lem : free letter_u key ≡ true → {n : ℕ} → number_in lines k key ≡ Is n → Stays lines k
+  number_line_lem : free letter_u key ≡ true → {n : ℕ} → number_in lines k key ≡ Some n → Stays lines k
   unfolding numeral_of
   number_line_lem f e =
       rw at_front at (line_stays key (drop k lines) f (digits_stay value (numeral_digits value e)) (λ z. never_number (sym (ap numeral_of z) ∙ e)))
@@ -61,7 +58,7 @@ one_of_six P a b c d e f (suc (suc (suc (suc (suc zero))))) h = f
 one_of_six P a b c d e f (suc (suc (suc (suc (suc (suc k)))))) h = absurd (omega arith)
 
 -- where the lines of a head say these words and numbers, each of them stays
-abbrev StayIf : List (List ℕ) → Found → Found → Found → Numeral → Found → Numeral → Type 0
+abbrev StayIf : List (List ℕ) → Option ℕ → Option ℕ → Option ℕ → Option ℕ → Option ℕ → Option ℕ → Type 0
 StayIf lines p n m r t a =
     word_in lines 0 (bytes "practice=") practice_words ≡ p
     → word_in lines 1 (bytes "nutrient=") nutrient_words ≡ n
@@ -71,7 +68,7 @@ StayIf lines p n m r t a =
     → number_in lines 5 (bytes "amount=") ≡ a
     → (k : ℕ) → k < head_lines → Stays lines k
 
-stay_if : (lines : List (List ℕ)) (p n m r t a : ℕ) → StayIf lines (At p) (At n) (At m) (Is r) (At t) (Is a)
+stay_if : (lines : List (List ℕ)) (p n m r t a : ℕ) → StayIf lines (Some p) (Some n) (Some m) (Some r) (Some t) (Some a)
 stay_if lines p n m r t a e1 e2 e3 e4 e5 e6 =
     one_of_six (Stays lines)
     (word_line lines 0 (bytes "practice=") keys_free.0 practice_words words_free.0 none_empty.0 e1)
@@ -81,7 +78,7 @@ stay_if lines p n m r t a e1 e2 e3 e4 e5 e6 =
     (word_line lines 4 (bytes "task=") keys_free.4 task_words words_free.3 none_empty.3 e5)
     (number_line_lem lines 5 (bytes "amount=") keys_free.5 e6)
 
-module _ (lines : List (List ℕ)) (g : Grants (behind_head (head_of lines) lines).answer) where
+module _ (lines : List (List ℕ)) (g : Grants (behind_head (head_of lines) lines)) where
   each_stays : (k : ℕ) → k < head_lines → Stays lines k
   unfolding head_of
   each_stays = head_reads (StayIf lines) (stay_if lines) _ _ _ _ _ _ lines g refl refl refl refl refl refl

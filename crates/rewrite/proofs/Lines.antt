@@ -1,12 +1,12 @@
 -- The lines of a text with C for U: a line whose value stays stays and says what it said, and the word of a soil becomes that of its C.
 -- Assumes nothing.
+use Rattle.std.specs.Prelude.{Some, None}
 use Prim.Native.Nat.{ℕ}
 use mathlib.Core.Bool.{true, cond}
 use mathlib.Core.List.{List, [], ◌∷◌, ◌++◌, map, map-append}
 use mathlib.Core.Path.{◌≡◌, refl, sym, ◌∙◌, ap}
 use lib.ListN.{length, get_or}
 use Rattle.laws.specs.Text.{bytes}
-use Rattle.text.specs.declared.Found.TheVariants.{At, Nothing}
 use Rattle.text.specs.Part.{part_of}
 use Rattle.text.specs.Pieces.{space, joined, pieces}
 use Rattle.text.specs.Words.{same_of, opens_of, place_from, place_of}
@@ -31,7 +31,7 @@ unfolding free all_free pieces joined
 words_free = (refl, refl, refl, refl, refl, refl)
 
 -- no word is empty
-pub none_empty : (place_of practice_words [] ≡ Nothing) × (place_of nutrient_words [] ≡ Nothing) × (place_of mode_words [] ≡ Nothing) × (place_of task_words [] ≡ Nothing) × (place_of land_words [] ≡ Nothing) × (place_of cover_words [] ≡ Nothing) × (place_of soil_words [] ≡ Nothing)
+pub none_empty : (place_of practice_words [] ≡ None) × (place_of nutrient_words [] ≡ None) × (place_of mode_words [] ≡ None) × (place_of task_words [] ≡ None) × (place_of land_words [] ≡ None) × (place_of cover_words [] ≡ None) × (place_of soil_words [] ≡ None)
 unfolding place_from same_of pieces joined
 none_empty = (refl, refl, refl, refl, refl, refl, refl)
 
@@ -51,12 +51,12 @@ value_stays key (line ∷ next ∷ others) e = ap (λ (l : List ℕ). cond (open
 
 -- Each word of a soil, with C for U, is the word of that soil on C.
 abbrev OnC : List ℕ → ℕ → Type 0
-OnC w k = (i : ℕ) × (place_of soil_words (map c_for_u w) ≡ At i) × (soil_at i ≡ on_c (soil_at k))
+OnC w k = (i : ℕ) × (place_of soil_words (map c_for_u w) ≡ Some i) × (soil_at i ≡ on_c (soil_at k))
 
 each_soil : Each OnC (pieces space soil_words) 0
 unfolding Each place_from same_of pieces joined
 each_soil =
     ((0, refl, refl), ((1, refl, refl), ((2, refl, refl), ((3, refl, refl), ((4, refl, refl), ((2, refl, refl), ((6, refl, refl), tt)))))))
 
-pub soil_on_c : (s : List ℕ) (k : ℕ) → place_of soil_words s ≡ At k → OnC s k
+pub soil_on_c : (s : List ℕ) (k : ℕ) → place_of soil_words s ≡ Some k → OnC s k
 soil_on_c s k e = found_word OnC (pieces space soil_words) s 0 each_soil e

@@ -1,5 +1,6 @@
 -- Rules, "A soil that is not known": the numbers before and since, by computation of the definitions.
 -- Assumes nothing.
+use Rattle.std.specs.Prelude.{Ok}
 use Prim.Native.Nat.{ℕ}
 use mathlib.Core.List.{List, flatten}
 use mathlib.Core.Path.{◌≡◌, refl, sym, ◌∙◌, ap}
@@ -27,7 +28,6 @@ use Rattle.job.specs.Areas.{sub_area_from, sub_area_of, added_line, areas_from}
 use Rattle.job.specs.Reading.{behind_head, reading_of}
 use Rattle.writing.specs.Lines.{line_with}
 use Rattle.answer.specs.Lines.{answer_text}
-use Rattle.answer.specs.declared.Outcome.TheVariants.{Granted}
 use Rattle.calculator.specs.Outcome.{by_tables, outcome_of}
 use Rattle.rewrite.specs.Rewriting.{rewritten_of}
 use Rattle.rewrite.specs.OldRules.{old_volume_of, old_outcome_of}
@@ -55,10 +55,10 @@ unfolding rewritten_of judged_from rises_to judged add_answer added_to added par
 wetland_rewritten = refl
 
 -- the outcomes of both jobs, before and since, and their texts
-outcomes_told : (old_outcome_of by_tables wetland_job ≡ Granted (figures 637_650 120 70_400 Between 2_000_000_000 448_905))
-    × (outcome_of by_tables wetland_job ≡ Granted (figures 637_650 107 68_840 Between 2_000_000_000 438_958))
-    × (old_outcome_of by_tables basin_job ≡ Granted (figures 52_046 36 70_000 Between 364_161_600 36_432))
-    × (outcome_of by_tables basin_job ≡ Granted (figures 52_046 36 70_000 Between 392_475_600 36_432))
+outcomes_told : (old_outcome_of by_tables wetland_job ≡ Ok (figures 637_650 120 70_400 Between 2_000_000_000 448_905))
+    × (outcome_of by_tables wetland_job ≡ Ok (figures 637_650 107 68_840 Between 2_000_000_000 438_958))
+    × (old_outcome_of by_tables basin_job ≡ Ok (figures 52_046 36 70_000 Between 364_161_600 36_432))
+    × (outcome_of by_tables basin_job ≡ Ok (figures 52_046 36 70_000 Between 392_475_600 36_432))
 unfolding first_from sum_of runoff_of by_rows from_row judged_from rises_to judged add_answer added_to added volume_of old_volume_of rates_of percents_of previous in_step lengths_fit without_rates offending_rate verdict_of height fastest curves_of exact_in basis_at fastest_taken rated admission_of credit_by size_by on_sheet answer_of part_of index_of joined pieces same_of place_from digits_from numeral_of value_of head_from head_of sub_area_from sub_area_of added_line areas_from behind_head reading_of outcome_of
 outcomes_told = (refl, refl, refl, refl)
 

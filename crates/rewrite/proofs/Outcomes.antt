@@ -15,9 +15,9 @@ use Rattle.site.specs.Promises.{all_fit}
 use Rattle.loads.specs.Rates.{export_rates}
 use Rattle.volume.specs.Volume.{volume_of}
 use Rattle.curve.specs.declared.Mode.{Mode}
+use Rattle.curve.specs.Answers.{refused}
 use Rattle.published.specs.Tables.{depths}
 use Rattle.published.specs.Published.{rates_of, percents_of, is_published}
-use Rattle.credit.specs.declared.CreditAnswer.TheVariants.{Refused}
 use Rattle.credit.specs.declared.Wanted.{Wanted}
 use Rattle.credit.specs.Answers.{Sheet, lent, published, on_sheet, on_parts, by_sheet, answer_by, answer_of}
 use Rattle.job.specs.declared.Job.{Job}
@@ -39,13 +39,13 @@ module _ (wanted : Wanted) (n : Nutrient) (mode : Mode) (r : ℕ) where
     sheet_old : (sheet : Sheet) → by_sheet volume_of sheet wanted n (map part_on_c parts) mode r ≡ by_sheet old_volume_of sheet wanted n parts mode r
     sheet_old (lent ds rs ps) = lists_old ds rs ps
     sheet_old (published practice) =
-        λ i. in_turn Refused (lists_old depths (rates_of practice n) (percents_of practice n) i) ((is_published practice n, NoPublishedSheet) ∷ [])
+        λ i. in_turn refused (lists_old depths (rates_of practice n) (percents_of practice n) i) ((is_published practice n, NoPublishedSheet) ∷ [])
 
   answer_old : (sheet : Sheet) (s : Site) → all_fit (parts_of s) ≡ true → answer_of sheet wanted n (site_on_c s) mode r ≡ answer_by old_volume_of sheet wanted n s mode r
   unfolding answer_of
   answer_old sheet s f =
       let e = ap (λ (ps : List SubArea). by_sheet volume_of sheet wanted n ps mode r) (parts_on_c s) ∙ sheet_old (parts_of s) f sheet in
-      λ i. after_judging Refused (λ total. e i) (judged_kept s i)
+      λ i. after_judging refused (λ total. e i) (judged_kept s i)
 
 -- and the outcome of a job.
 pub task_old : (t : Task) (sheet : Sheet) (j : Job) (s : Site) → all_fit (parts_of s) ≡ true → of_task t sheet j (site_on_c s) ≡ of_task_by (answer_by old_volume_of) t sheet j s

@@ -1,12 +1,12 @@
 -- Rules, "A soil that is not known": what is promised of rewritten jobs, proved of the definitions that the contracts cite.
 -- Assumes nothing.
+use Rattle.std.specs.Prelude.{Result, Ok, Err}
 use Prim.Native.Nat.{ℕ}
 use mathlib.Core.Bool.{Bool, true, false, cond}
 use mathlib.Core.List.{List, [], ◌∷◌, map}
 use mathlib.Core.Path.{◌≡◌, refl, sym, ◌∙◌, ap}
 use lib.Dec.{eqb}
 use lib.ListN.{length, get_or, length-map, take, get_or-map}
-use Rattle.refusal.specs.declared.Refusal.{Refusal}
 use Rattle.refusal.specs.Refusal.{granted}
 use Rattle.site.specs.declared.Site.{Site}
 use Rattle.site.specs.Parts.{parts_of}
@@ -15,8 +15,8 @@ use Rattle.site.specs.Judging.{judged, given as area_given}
 use Rattle.site.proofs.Promises.{fine_exactly, given_some}
 use Rattle.text.specs.Pieces.{line_feed}
 use Rattle.job.specs.declared.Job.{Job}
-use Rattle.job.specs.declared.JobAnswer.{JobAnswer}
-use Rattle.job.specs.declared.JobAnswer.TheVariants.{Granted, Refused}
+use Rattle.job.specs.declared.Reading.{Reading}
+use Rattle.job.specs.declared.Unread.{Unread}
 use Rattle.job.specs.Lines.{lines_of}
 use Rattle.job.specs.Reading.{head_lines, reading_of}
 use Rattle.job.proofs.Promises.{site_beside}
@@ -34,47 +34,44 @@ use Rattle.rewrite.proofs.Heads.{head_stays}
 use Rattle.rewrite.proofs.Outcomes.{task_old}
 
 -- A text that reads is rewritten, and one that does not is not.
-rewritten : (text : List ℕ) {j : Job} → (reading_of text).answer ≡ Granted j → rewritten_of text ≡ map c_for_u text
-rewritten text {j} e = sym (rewritten_read text refl j e refl)
+rewritten : (text : List ℕ) {r : Reading} → reading_of text ≡ Ok r → rewritten_of text ≡ map c_for_u text
+rewritten text e = sym (rewritten_read text refl (rw e) refl)
 
-copied : (text : List ℕ) {why : Refusal} {k : ℕ} → (reading_of text).answer ≡ Refused why k → rewritten_of text ≡ text
-copied text {why} {k} e = sym (rewritten_kept text refl why k e)
+copied : (text : List ℕ) {u : Unread} → reading_of text ≡ Err u → rewritten_of text ≡ text
+copied text e = sym (rewritten_kept text refl (rw e))
 
 pub copied_as_it_came : CopiedAsItCame
-copied_as_it_came text not = told (reading_of text).answer refl
+copied_as_it_came text not = told (reading_of text) refl
   where
-    told : (a : JobAnswer) → (reading_of text).answer ≡ a → rewritten_of text ≡ text
-    told (Granted j) e = absurd (not (rw e))
-    told (Refused why k) e = copied text e
+    told : (a : Result Reading Unread) → reading_of text ≡ a → rewritten_of text ≡ text
+    told (Ok r) e = absurd (not (rw e))
+    told (Err u) e = copied text e
 
 pub same_length : SameLength
-same_length text = told (reading_of text).answer refl
+same_length text = told (reading_of text) refl
   where
-    told : (a : JobAnswer) → (reading_of text).answer ≡ a → length (rewritten_of text) ≡ length text
-    told (Granted j) e = ap length (rewritten text e) ∙ length-map text c_for_u
-    told (Refused why k) e = ap length (copied text e)
+    told : (a : Result Reading Unread) → reading_of text ≡ a → length (rewritten_of text) ≡ length text
+    told (Ok r) e = ap length (rewritten text e) ∙ length-map text c_for_u
+    told (Err u) e = ap length (copied text e)
 
 pub reads_as_c : ReadsAsC
 reads_as_c text j s h =
-    let e = ap (λ (r : _). r.answer) h in
-    ap reading_of (rewritten text e) ∙ text_on_c text (rw e tt) ∙ ap reading_on_c h
+    ap reading_of (rewritten text h) ∙ text_on_c text (rw h tt) ∙ ap reading_on_c h
 
 pub head_kept : HeadKept
 head_kept text j s h =
-    let e = ap (λ (r : _). r.answer) h in
-    ap (λ (t : List ℕ). take head_lines (lines_of t)) (rewritten text e)
+    ap (λ (t : List ℕ). take head_lines (lines_of t)) (rewritten text h)
     ∙ ap (take head_lines) (pieces_changed line_feed refl text)
-    ∙ head_stays (lines_of text) (behind_reads text (rw e tt))
+    ∙ head_stays (lines_of text) (behind_reads text (rw h tt))
 
 pub only_the_soil : OnlyTheSoil
 only_the_soil text j s h k low high =
-    let e = ap (λ (r : _). r.answer) h in
     let line = get_or (lines_of text) k [] in
     let rewriting : get_or (lines_of (rewritten_of text)) k [] ≡ map c_for_u line =
-    ap (λ (t : List ℕ). get_or (lines_of t) k []) (rewritten text e)
+    ap (λ (t : List ℕ). get_or (lines_of t) k []) (rewritten text h)
     ∙ ap (λ (ls : List (List ℕ)). get_or ls k []) (pieces_changed line_feed refl text)
     ∙ get_or-map (map c_for_u) (lines_of text) k [] in
-    rw rewriting (lines_alone (lines_of text) (behind_reads text (rw e tt)) k low high)
+    rw rewriting (lines_alone (lines_of text) (behind_reads text (rw h tt)) k low high)
 
 -- The record beside a job that reads has sub-areas that fit.
 reads_fit : (text : List ℕ) (j : Job) (s : Site) → Reads text j s → all_fit (parts_of s) ≡ true
@@ -84,16 +81,14 @@ reads_fit text j s h =
     ((fine_exactly s g.0.0).0 (ap area_given g.1)).1
 
 pub keeps_the_old_answer : KeepsTheOldAnswer
-keeps_the_old_answer sheet text = told (reading_of text).answer refl
+keeps_the_old_answer sheet text = told (reading_of text) refl
   where
-    told : (a : JobAnswer) → (reading_of text).answer ≡ a → outcome_of sheet (rewritten_of text) ≡ old_outcome_of sheet text
-    told (Granted j) e =
-        let s = (reading_of text).site in
-        let h : Reads text j s = λ i. record { answer = e i; site = s } in
-        worked_out sheet (rewritten_of text) (reads_as_c text j s h)
-        ∙ task_old j.task (sheet j.practice) j s (reads_fit text j s h)
+    told : (a : Result Reading Unread) → reading_of text ≡ a → outcome_of sheet (rewritten_of text) ≡ old_outcome_of sheet text
+    told (Ok r) e =
+        worked_out sheet (rewritten_of text) (reads_as_c text r.job r.site e)
+        ∙ task_old r.job.task (sheet r.job.practice) r.job r.site (reads_fit text r.job r.site e)
         ∙ rw e refl
-    told (Refused why k) e = ap (outcome_of sheet) (copied text e) ∙ sym (does_not_read sheet text refl why k e) ∙ rw e refl
+    told (Err u) e = ap (outcome_of sheet) (copied text e) ∙ sym (does_not_read sheet text refl e) ∙ rw e refl
 
 twice : (text : List ℕ) → map c_for_u (map c_for_u text) ≡ map c_for_u text
 twice [] = refl
@@ -104,14 +99,12 @@ twice (x ∷ text) = λ i. at (eqb x letter_u) refl i ∷ twice text i
     at false e = rw e
 
 again : (text : List ℕ) → rewritten_of (rewritten_of text) ≡ rewritten_of text
-again text = told (reading_of text).answer refl
+again text = told (reading_of text) refl
   where
-    told : (a : JobAnswer) → (reading_of text).answer ≡ a → rewritten_of (rewritten_of text) ≡ rewritten_of text
-    told (Granted j) e =
-        let s = (reading_of text).site in
-        let r = ap (λ (r : _). r.answer) (reads_as_c text j s (λ i. record { answer = e i; site = s })) in
-        rewritten (rewritten_of text) r ∙ ap (map c_for_u) (rewritten text e) ∙ twice text ∙ sym (rewritten text e)
-    told (Refused why k) e = ap rewritten_of (copied text e)
+    told : (a : Result Reading Unread) → reading_of text ≡ a → rewritten_of (rewritten_of text) ≡ rewritten_of text
+    told (Ok r) e =
+        rewritten (rewritten_of text) (reads_as_c text r.job r.site e) ∙ ap (map c_for_u) (rewritten text e) ∙ twice text ∙ sym (rewritten text e)
+    told (Err u) e = ap rewritten_of (copied text e)
 
 pub nothing_left : NothingLeft
 nothing_left text = (

@@ -1,5 +1,8 @@
 -- A site with C for U: it is judged and added to as the site is, and has its loads and impervious area.
 -- Assumes nothing.
+use Rattle.std.specs.Prelude.{Result, Ok, Err}
+use Rattle.refusal.specs.declared.Refusal.{Refusal}
+use Rattle.units.specs.declared.Area.{Area}
 use Prim.Native.Nat.{ℕ, ◌+◌, ◌*◌}
 use mathlib.Core.Bool.{Bool, ◌&&◌, not}
 use mathlib.Core.List.{List, [], ◌∷◌, map}
@@ -15,9 +18,7 @@ use Rattle.site.specs.declared.Soil.{Soil}
 use Rattle.site.specs.declared.Soil.TheVariants.{A, B, C, CD, D, U, NoSoil}
 use Rattle.site.specs.declared.SubArea.{SubArea}
 use Rattle.site.specs.declared.Site.{Site}
-use Rattle.site.specs.declared.Added.{Added}
-use Rattle.site.specs.declared.AreaAnswer.{AreaAnswer}
-use Rattle.site.specs.declared.AreaAnswer.TheVariants.{Granted, Refused}
+use Rattle.site.specs.Adding.{Added}
 use Rattle.site.specs.Soils.{named, suits}
 use Rattle.site.specs.Parts.{parts_of, area_of, impervious_of, impervious_area}
 use Rattle.site.specs.Judging.{fits, judged_from, judged, after_judging}
@@ -74,9 +75,9 @@ module _ (s : Site) (p : SubArea) where
         counter = s.counter + 1;
       }
 
-  settled_on_c : (x : AreaAnswer) → settled (site_on_c s) (part_on_c p) x ≡ added_on_c (settled s p x)
-  settled_on_c (Granted total) = λ i. record { answer = Granted total; site = stored_on_c i; number = s.counter }
-  settled_on_c (Refused why) = refl
+  settled_on_c : (x : Result Area Refusal) → settled (site_on_c s) (part_on_c p) x ≡ added_on_c (settled s p x)
+  settled_on_c (Ok total) = λ i. record { answer = Ok total; site = stored_on_c i; number = s.counter }
+  settled_on_c (Err why) = refl
 
   added_to_on_c : (total : ℕ) → added_to (site_on_c s) total (part_on_c p) ≡ added_on_c (added_to s total p)
   unfolding added_to
@@ -86,9 +87,9 @@ module _ (s : Site) (p : SubArea) where
   unfolding added
   added_on_c_lem = rw (judged_kept s) (at (judged s))
     where
-      at : (x : AreaAnswer) → after_judging (kept (site_on_c s)) (λ total. added_to (site_on_c s) total (part_on_c p)) x ≡ added_on_c (after_judging (kept s) (λ total. added_to s total p) x)
-      at (Granted total) = added_to_on_c total.0
-      at (Refused why) = refl
+      at : (x : Result Area Refusal) → after_judging (kept (site_on_c s)) (λ total. added_to (site_on_c s) total (part_on_c p)) x ≡ added_on_c (after_judging (kept s) (λ total. added_to s total p) x)
+      at (Ok total) = added_to_on_c total.0
+      at (Err why) = refl
 
 rate_place_kept : (cover : Cover) (land : LandUse) (soil : Soil) → rate_place_under cover land (on_c soil) ≡ rate_place_under cover land soil
 rate_place_kept Imp land soil = refl

@@ -1,5 +1,6 @@
 -- A text with C for U: its pieces are changed one by one, and keys, words that hold no U and numbers stay.
 -- Assumes nothing.
+use Rattle.std.specs.Prelude.{Some}
 use Prim.Native.Nat.{ℕ, ◌+◌, ◌-◌}
 use mathlib.Core.Bool.{Bool, true, false, cond, ◌&&◌, not}
 use mathlib.Core.List.{List, [], ◌∷◌, map}
@@ -11,7 +12,6 @@ use borrow.Author.Tests.{eq-eqb, ne_eqb, eqb-true, not-true}
 use Rattle.laws.proofs.And.{and_left, and_right}
 use Rattle.laws.proofs.Map.{take_map, drop_map}
 use Rattle.laws.proofs.Order.{never_both}
-use Rattle.text.specs.declared.Found.TheVariants.{At}
 use Rattle.text.specs.Part.{part_of}
 use Rattle.text.specs.Pieces.{index_of, before_of, after_of, joined, pieces}
 use Rattle.text.specs.Words.{place_from}
@@ -87,7 +87,7 @@ unfolding Each
 each_stays [] k f = tt
 each_stays (w ∷ ws) k f = let p = all_free_parts letter_u w ws f in (free_stays w p.0, each_stays ws (k + 1) p.1)
 
-pub word_stays : (ws : List (List ℕ)) (s : List ℕ) (k : ℕ) {j : ℕ} → all_free letter_u ws ≡ true → place_from ws s k ≡ At j → map c_for_u s ≡ s
+pub word_stays : (ws : List (List ℕ)) (s : List ℕ) (k : ℕ) {j : ℕ} → all_free letter_u ws ≡ true → place_from ws s k ≡ Some j → map c_for_u s ≡ s
 word_stays ws s k f e = found_word (λ w i. map c_for_u w ≡ w) ws s k (each_stays ws k f) e
 
 -- and a number.

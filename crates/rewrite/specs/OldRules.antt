@@ -12,7 +12,7 @@ use Rattle.site.specs.Soils.{column_of}
 use Rattle.site.specs.Parts.{area_of, impervious_area}
 use Rattle.volume.specs.Volume.{if_pervious}
 use Rattle.credit.specs.Answers.{Sheet, VolumeRule, answer_by}
-use Rattle.answer.specs.declared.Outcome.{Outcome}
+use Rattle.answer.specs.Outcomes.{Outcome}
 use Rattle.calculator.specs.Outcome.{outcome_by}
 
 -- in Table 3-4 U was read as C

@@ -27,7 +27,7 @@ KeepsTheOldAnswer = (sheet : ℕ → Sheet) (text : List ℕ) → outcome_of she
 
 -- A text that does not read, and so is refused 1, 2, 3 or 14, is copied as it came.
 abbrev pub CopiedAsItCame : Type 0
-CopiedAsItCame = (text : List ℕ) → ((given (reading_of text).answer).0 ≡ granted → ⊥) → rewritten_of text ≡ text
+CopiedAsItCame = (text : List ℕ) → ((given (reading_of text)).0 ≡ granted → ⊥) → rewritten_of text ≡ text
 
 -- C for U, and every other soil as it is
 abbrev pub on_c : Soil → Soil

@@ -1,9 +1,9 @@
 -- Rules, "A soil that is not known": stored jobs that were written while U was read as C everywhere, rewritten so that they say C.
 -- Assumes nothing.
-use Rattle.std.specs.Prelude.{ℕ, cond, List, map, eqb}
+use Rattle.std.specs.Prelude.{ℕ, cond, List, map, eqb, Result, Ok, Err}
 use Prim.Native.Char.{code}
-use Rattle.job.specs.declared.JobAnswer.{JobAnswer}
-use Rattle.job.specs.declared.JobAnswer.TheVariants.{Granted, Refused}
+use Rattle.job.specs.declared.Reading.{Reading}
+use Rattle.job.specs.declared.Unread.{Unread}
 use Rattle.job.specs.Reading.{reading_of}
 
 -- the letter of the soil that is not known, and of the one that it was read as
@@ -19,9 +19,9 @@ c_for_u x = cond (eqb x letter_u) letter_c x
 
 -- A text that reads gets C for each U, which by HeadKept and OnlyTheSoil stands nowhere in it but as the soil of an area line; one that
 -- does not read is left as it came.
-abbrev pub if_it_reads : JobAnswer → List ℕ → List ℕ
-if_it_reads (Granted j) text = map c_for_u text
-if_it_reads (Refused why line) text = text
+abbrev pub if_it_reads : Result Reading Unread → List ℕ → List ℕ
+if_it_reads (Ok r) text = map c_for_u text
+if_it_reads (Err u) text = text
 
 unfoldable pub rewritten_of : List ℕ → List ℕ
-rewritten_of text = if_it_reads (reading_of text).answer text
+rewritten_of text = if_it_reads (reading_of text) text

@@ -1,6 +1,8 @@
 -- Rules, "Pervious runoff": Table 3-4, straight between its rows, in thirty-thousandths of an inch.
 -- Assumes nothing.
-use Rattle.std.specs.Prelude.{ℕ, suc, ◌+◌, ◌-◌, ◌*◌, ◌/◌, ◌%◌, cond, List, [], ◌∷◌, ltb, leb, get_or}
+use Rattle.runoff.specs.declared.RunoffDepth.{RunoffDepth}
+use Rattle.refusal.specs.declared.Refusal.{Refusal}
+use Rattle.std.specs.Prelude.{ℕ, suc, ◌+◌, ◌-◌, ◌*◌, ◌/◌, ◌%◌, cond, List, [], ◌∷◌, ltb, leb, get_or, Result, Ok, Err}
 use Rattle.laws.specs.Line.{line}
 use Rattle.laws.specs.Table.{table_of}
 use Rattle.refusal.specs.declared.Refusal.TheVariants.{AmountOutOfRange}
@@ -9,8 +11,6 @@ use Rattle.units.specs.declared.Column.{Column}
 use Rattle.units.specs.declared.Depth.{Depth}
 use Rattle.units.specs.Columns.{column_place}
 use Rattle.units.specs.Limits.{highest_depth, grid_depths}
-use Rattle.runoff.specs.declared.RunoffAnswer.{RunoffAnswer}
-use Rattle.runoff.specs.declared.RunoffAnswer.TheVariants.{Granted, Refused}
 
 -- Table 3-4, hundredths of an inch: rain, then the runoff on soils A, B, C, CD, D
 abbrev pub rows : List (List ℕ)
@@ -68,16 +68,16 @@ abbrev pub entry_place : Column → ℕ → ℕ
 entry_place c d = column_place c * grid_depths + d
 
 -- what a lent sheet has for a column at a depth, refused above the grid
-abbrev pub entry_of : List ℕ → Column → Depth → RunoffAnswer
+abbrev pub entry_of : List ℕ → Column → Depth → Result RunoffDepth Refusal
 entry_of sheet c d =
-    cond (leb d.0 highest_depth) (Granted (record { 0 = get_or sheet (entry_place c d.0) 0 })) (Refused AmountOutOfRange)
+    cond (leb d.0 highest_depth) (Ok (record { 0 = get_or sheet (entry_place c d.0) 0 })) (Err AmountOutOfRange)
 
 -- the public answer: the runoff, refused 9 above the grid
-abbrev pub runoff_answer : Column → Depth → RunoffAnswer
+abbrev pub runoff_answer : Column → Depth → Result RunoffDepth Refusal
 runoff_answer c d =
-    cond (leb d.0 highest_depth) (Granted (record { 0 = runoff_of c d.0 })) (Refused AmountOutOfRange)
+    cond (leb d.0 highest_depth) (Ok (record { 0 = runoff_of c d.0 })) (Err AmountOutOfRange)
 
 -- the rules' number and value
-abbrev pub given : RunoffAnswer → ℕ × ℕ
-given (Granted r) = (granted, r.0)
-given (Refused r) = (number_of r, 0)
+abbrev pub given : Result RunoffDepth Refusal → ℕ × ℕ
+given (Ok r) = (granted, r.0)
+given (Err r) = (number_of r, 0)

@@ -11,7 +11,7 @@ pub use entries::sheet;
 use refusal::Refusal;
 use units::{Column, Depth};
 
-// Table 3-4 as document 001 prints it, hundredths of an inch: rain, then the runoff on A, B, C, CD, D.
+// Table 3-4 as document 001 prints it, hundredths of an inch: rain, then the runoff on A, B, C, CD, D. `rows` is the same list.
 const ROWS: [[u64; 6]; 10] = [
     [10, 0, 0, 0, 0, 0],
     [20, 0, 0, 1, 2, 2],
@@ -39,25 +39,22 @@ const GRID: usize = 201;
 #[derive(Clone, Copy)]
 pub struct RunoffDepth(pub u64);
 
-#[derive(Clone, Copy)]
-pub enum RunoffAnswer {
-    Granted(RunoffDepth),
-    Refused(Refusal),
-}
-
 // The sheet's entry for a column at a depth, refused 9 above the grid. The sheet is lent, so that a
 // caller who looks up many entries builds it once.
-pub fn entry(sheet: &[u16; 1005], column: Column, depth: Depth) -> RunoffAnswer
+#[tactic(auto, using(crate::proofs::Answers::entry_granted, crate::proofs::Answers::entry_refused))]
+pub fn entry(sheet: &[u16; 1005], column: Column, depth: Depth) -> Result<RunoffDepth, Refusal>
     ensures { result ≡ entry_of sheet.now column depth }
 {
     if depth.0 <= Depth::HIGHEST {
-        let at = place_of(column, depth);
-        return RunoffAnswer::Granted(RunoffDepth(wide(sheet[at])));
+        let found = sheet[place_of(column, depth)];
+        return Ok(RunoffDepth(u64::from(found)));
     }
-    RunoffAnswer::Refused(Refusal::AmountOutOfRange)
+    Err(Refusal::AmountOutOfRange)
 }
 
-// Where the entry of a column and a grid depth stands in the sheet.
+// Where the entry of a column and a grid depth stands in the sheet. The sheet is flat, and its place is worked out: the edit
+// `one_depth_off`, a place that counts 200 depths to a soil, has no form over rows.
+#[tactic(auto, using(units::proofs::Columns::place_most))]
 fn place_of(column: Column, depth: Depth) -> usize
     requires { depth.0 ≤ highest_depth }
     ensures { (result ≡ entry_place column depth.0) × (result < sheet_length) }
@@ -65,14 +62,9 @@ fn place_of(column: Column, depth: Depth) -> usize
     units::place(column) * GRID + depth.0 as usize
 }
 
-fn wide(x: u16) -> u64
-    ensures { result ≡ x }
-{
-    x as u64
-}
-
 // The runoff of a table column at a depth, refused 9 above the grid.
-pub fn runoff(column: Column, depth: Depth) -> RunoffAnswer
+#[tactic(auto, using(crate::proofs::Answers::entry_of_sheet))]
+pub fn runoff(column: Column, depth: Depth) -> Result<RunoffDepth, Refusal>
     ensures { result ≡ runoff_answer column depth }
 {
     let all = sheet();

@@ -1,5 +1,6 @@
 -- The promise of a job that is written from its codes, proved.
 -- Assumes nothing.
+use Rattle.std.specs.Prelude.{Result, Ok, Err, ℕ}
 use Prim.Native.Nat.{ℕ, zero, suc, ◌%◌, ◌≤◌}
 use mathlib.Core.Bool.{Bool, true, false}
 use mathlib.Core.List.{List, [], ◌∷◌}
@@ -16,10 +17,7 @@ use Rattle.refusal.proofs.Numbers.{refusal_not_granted}
 use Rattle.site.specs.declared.SubArea.{SubArea}
 use Rattle.site.specs.Parts.{most_parts, parts_of, empty_site}
 use Rattle.site.specs.Promises.{InMemory}
-use Rattle.job.specs.declared.JobAnswer.TheVariants.{Granted}
 use Rattle.job.specs.Reading.{reading_of}
-use Rattle.writing.specs.declared.Written.{Written}
-use Rattle.writing.specs.declared.Written.TheVariants.{Refused}
 use Rattle.writing.specs.Writing.{written_given}
 use Rattle.jobtext.specs.Text.{job_written, job_buffer}
 use Rattle.jobtext.specs.Records.{site_of}
@@ -47,19 +45,19 @@ onward buf c n e =
     let t = at (eqb (length c.areas % 4) 0) (leb (count_in c.areas) most_parts) refl (head_worded c.nutrient c.mode c.task) (all_worded (count_in c.areas) c.areas) e in
     record { few = t.0; written = t.1; holds = t.2 }
   where
-    answer : Written
+    answer : Result ℕ Refusal
     answer = job_written buf (job_in c) (site_of (areas_in c))
 
     held : List ℕ
     held = job_buffer buf (job_in c) (site_of (areas_in c))
 
-    never : {A : Type 0} (why : Refusal) → written_given (Refused why) ≡ (granted, n) → A
+    never : {A : Type 0} (why : Refusal) → written_given (Err why) ≡ (granted, n) → A
     never why e = absurd (refusal_not_granted why (ap (λ (g : ℕ × ℕ). g.0) e))
 
     at : (a b : Bool) → leb (count_in c.areas) most_parts ≡ b → (d e : Bool)
-        → written_given (in_turn Refused answer ((a, MalformedText) ∷ (b, SiteFull) ∷ (d, MalformedText) ∷ (e, MalformedText) ∷ [])) ≡ (granted, n)
+        → written_given (in_turn Err answer ((a, MalformedText) ∷ (b, SiteFull) ∷ (d, MalformedText) ∷ (e, MalformedText) ∷ [])) ≡ (granted, n)
         → (count_in c.areas ≤ most_parts)
-        × (in_turn Refused answer ((a, MalformedText) ∷ (b, SiteFull) ∷ (d, MalformedText) ∷ (e, MalformedText) ∷ []) ≡ answer)
+        × (in_turn Err answer ((a, MalformedText) ∷ (b, SiteFull) ∷ (d, MalformedText) ∷ (e, MalformedText) ∷ []) ≡ answer)
         × (in_turn (λ why. buf) held ((a, MalformedText) ∷ (b, SiteFull) ∷ (d, MalformedText) ∷ (e, MalformedText) ∷ []) ≡ held)
     at false b f d e g = never MalformedText g
     at true false f d e g = never SiteFull g
@@ -79,4 +77,4 @@ codes_read_back buf c n e =
     let written = ap written_given (sym on.written) ∙ e in
     let fits = (granted_exactly buf j s n (stored_memory empty_site (areas_in c) empty)).0 written in
     let text = ap (take n) on.holds ∙ (granted_holds buf j s n written).0 in
-    (ap reading_of text ∙ (reads_back j s fits.0).0 ∙ ap (λ (ps : List SubArea). record { answer = Granted j; site = site_of ps }) parts, parts)
+    (ap reading_of text ∙ (reads_back j s fits.0).0 ∙ ap (λ (ps : List SubArea). Ok (record { job = j; site = site_of ps })) parts, parts)

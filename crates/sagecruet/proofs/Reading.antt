@@ -1,18 +1,19 @@
 -- The walk over the numbers of the sub-areas.
 -- Assumes nothing.
 use Prim.Native.Nat.{ℕ, suc, ◌+◌, ◌-◌, ◌*◌, ◌≤◌, ◌<◌}
-use mathlib.Core.Bool.{Bool, true, false, not, ◌&&◌}
+use mathlib.Core.Bool.{Bool, true, false, ◌&&◌}
 use mathlib.Core.List.{List, ◌∷◌}
 use mathlib.Core.Path.{◌≡◌, refl, sym, ◌∙◌, ap}
 use mir.Syntax.{w32, w64}
 use mir.Val.{Fits}
 use native.Mathlib.Nat.{sub-zero, add-zero, lt_of_le_of_lt}
 use native.Mathlib.Omega.{arith}
-use borrow.Author.Tests.{not-true, not-false}
 use lib.Dec.{lit<}
 use lib.ListN.{length, get_or, drop, set}
 use lib.Seq.{get_or-drop, drop-drop}
-use Rattle.laws.proofs.And.{and_left, and_right}
+use Rattle.std.specs.Prelude.{Ok, Err}
+use Rattle.refusal.specs.declared.Refusal.{Refusal}
+use Rattle.refusal.specs.declared.Refusal.TheVariants.{MalformedText}
 use Rattle.site.specs.declared.SubArea.{SubArea}
 use Rattle.site.specs.declared.Site.{Site}
 use Rattle.site.specs.Parts.{empty_site}
@@ -21,7 +22,7 @@ use Rattle.site.specs.Promises.{InMemory}
 use Rattle.site.proofs.Adding.{memory_stored}
 use Rattle.jobtext.specs.Records.{stored_all, site_of}
 use Rattle.sagecruet.specs.Codes.{part_in, worded, parts_in, all_worded}
-use Rattle.sagecruet.specs.Inner.{Fours, Worded}
+use Rattle.sagecruet.specs.Inner.{Fours, where_worded}
 
 -- A walk over the numbers stands in front of sub-area i.
 pub record Stands (n : ℕ) (xs : List ℕ) (i at : ℕ) : Type 0 where
@@ -92,64 +93,40 @@ module _ (xs : List ℕ) (at : ℕ) where
   unfolding all_worded
   worded_turn m = rw (get_or-drop at xs 0 0, get_or-drop at xs 1 0, get_or-drop at xs 2 0, drop-drop 4 at xs, add-zero at)
 
--- The codes of the first i sub-areas have words, and those that are left decide.
-pub record Tried (n : ℕ) (xs : List ℕ) (i at : ℕ) : Type 0 where
-  pub stands : Stands n xs i at
-  pub words : all_worded (n - i) (drop at xs) ≡ all_worded n xs
+-- what is told by codes is granted where they have words, and refused 1 where not
+pub told_ok : {X : Type 0} (b : Bool) (x y : X) → Ok y ≡ where_worded b x → (b ≡ true) × (y ≡ x)
+told_ok true x y e = (refl, cc)
+told_ok false x y e = cc
 
-pub tried_none : {n : ℕ} {xs : List ℕ} → Fours n xs → Tried n xs 0 0
-tried_none {n} f = record { stands = stands_none f; words = rw (sub-zero n) }
+pub told_err : {X : Type 0} (b : Bool) (x : X) (why : Refusal) → Err why ≡ where_worded b x → (b ≡ false) × (why ≡ MalformedText)
+told_err true x why e = cc
+told_err false x why e = (refl, cc)
 
-module _ {n : ℕ} {xs : List ℕ} {i at : ℕ} (t : Tried n xs i at) where
-  module _ (h : i < n) {ok : Bool} (e : ok ≡ here_worded xs at) where
-    turned : (here_worded xs at && all_worded (n - (i + 1)) (drop (at + 4) xs)) ≡ all_worded n xs
-    turned = sym (worded_turn xs at (n - (i + 1))) ∙ (rw (left t.stands h) at t.words)
-
-    pub tried_stops : not ok ≡ true → false ≡ all_worded n xs
-    tried_stops f = ap (λ (b : Bool). b && all_worded (n - (i + 1)) (drop (at + 4) xs)) (sym (not-true ok f) ∙ e) ∙ turned
-
-    pub tried_next : not ok ≡ false → Tried n xs (i + 1) (at + 4)
-    tried_next f =
-        record {
-          stands = stands_next t.stands h;
-          words = ap (λ (b : Bool). b && all_worded (n - (i + 1)) (drop (at + 4) xs)) (sym (not-false ok f) ∙ e) ∙ turned;
-        }
-
-  pub tried_all : n ≤ i → true ≡ all_worded n xs
-  unfolding all_worded
-  tried_all h =
-      let l = t.stands.within in
-      let none : n - i ≡ 0 = omega arith in
-      rw none at t.words
-
--- The first i sub-areas are stored, and with those that are left the record is whole.
+-- The first i sub-areas are stored, and with those that are left the record is whole; the codes of those decide.
 pub record Walked (n : ℕ) (xs : List ℕ) (s : Site) (i at : ℕ) : Type 0 where
   pub stands : Stands n xs i at
   pub memory : InMemory s
   pub count : s.count ≡ i
   pub counter : s.counter ≡ i + 1
-  pub words : all_worded (n - i) (drop at xs) ≡ true
+  pub words : all_worded (n - i) (drop at xs) ≡ all_worded n xs
   pub built : stored_all s (parts_in (n - i) (drop at xs)) ≡ site_of (parts_in n xs)
 
-pub walked_none : {n : ℕ} {xs : List ℕ} {s : Site} → s ≡ empty_site → Worded n xs → Walked n xs s 0 0
-walked_none {n} e w =
+pub walked_none : {n : ℕ} {xs : List ℕ} {s : Site} → s ≡ empty_site → Fours n xs → Walked n xs s 0 0
+walked_none {n} e f =
     rw e
     (record {
-      stands = stands_none w.fours;
+      stands = stands_none f;
       memory = record { parts = refl; numbers = refl };
       count = refl;
       counter = refl;
-      words = rw (sub-zero n) w.words;
+      words = rw (sub-zero n);
       built = rw (sub-zero n);
     })
 
 module _ {n : ℕ} {xs : List ℕ} {s : Site} {i at : ℕ} (w : Walked n xs s i at) where
   module _ (h : i < n) where
-    both : (here_worded xs at && all_worded (n - (i + 1)) (drop (at + 4) xs)) ≡ true
-    both = sym (worded_turn xs at (n - (i + 1))) ∙ (rw (left w.stands h) at w.words)
-
-    pub here_worded_lem : true ≡ here_worded xs at
-    here_worded_lem = sym (and_left (here_worded xs at) (all_worded (n - (i + 1)) (drop (at + 4) xs)) both)
+    turned : (here_worded xs at && all_worded (n - (i + 1)) (drop (at + 4) xs)) ≡ all_worded n xs
+    turned = sym (worded_turn xs at (n - (i + 1))) ∙ (rw (left w.stands h) at w.words)
 
     pub number_fits : Fits w32 (s.counter + 1)
     number_fits =
@@ -158,10 +135,17 @@ module _ {n : ℕ} {xs : List ℕ} {s : Site} {i at : ℕ} (w : Walked n xs s i 
         let m : s.counter + 1 ≤ 34 = omega arith in
         record { fits = lt_of_le_of_lt m (lit< tt) }
 
-    pub walked_next : {p : SubArea} → p ≡ here xs at
+    pub walked_stops : {why : Refusal} → Err why ≡ where_worded (here_worded xs at) (here xs at) → Err why ≡ where_worded (all_worded n xs) (site_of (parts_in n xs))
+    walked_stops {why} e =
+        let t = told_err (here_worded xs at) (here xs at) why e in
+        let none = ap (λ (b : Bool). b && all_worded (n - (i + 1)) (drop (at + 4) xs)) (sym t.0) ∙ turned in
+        rw (← none, t.1)
+
+    pub walked_next : {p : SubArea} → Ok p ≡ where_worded (here_worded xs at) (here xs at)
         → Walked n xs (record { parts = set s.parts i p; count = i + 1; numbers = set s.numbers i s.counter; counter = s.counter + 1 }) (i + 1) (at + 4)
     unfolding stored_all
-    walked_next {p} q =
+    walked_next {p} e =
+        let t = told_ok (here_worded xs at) (here xs at) p e in
         let put : stored s p ≡ record { parts = set s.parts i p; count = i + 1; numbers = set s.numbers i s.counter; counter = s.counter + 1 } = rw w.count in
         let counter = w.counter in
         record {
@@ -169,16 +153,18 @@ module _ {n : ℕ} {xs : List ℕ} {s : Site} {i at : ℕ} (w : Walked n xs s i 
           memory = rw put at (memory_stored s p w.memory);
           count = refl;
           counter = omega arith;
-          words = and_right (here_worded xs at) (all_worded (n - (i + 1)) (drop (at + 4) xs)) both;
+          words = ap (λ (b : Bool). b && all_worded (n - (i + 1)) (drop (at + 4) xs)) (sym t.0) ∙ turned;
           built =
-              ap (λ (t : Site). stored_all t (parts_in (n - (i + 1)) (drop (at + 4) xs))) (sym put ∙ ap (stored s) q)
+              ap (λ (t : Site). stored_all t (parts_in (n - (i + 1)) (drop (at + 4) xs))) (sym put ∙ ap (stored s) t.1)
               ∙ ap (stored_all s) (sym (parts_turn xs at (n - (i + 1))))
               ∙ (rw (left w.stands h) at w.built);
         }
 
-  pub walked_all : n ≤ i → s ≡ site_of (parts_in n xs)
-  unfolding stored_all parts_in
+  pub walked_all : n ≤ i → Ok s ≡ where_worded (all_worded n xs) (site_of (parts_in n xs))
+  unfolding stored_all parts_in all_worded
   walked_all h =
       let l = w.stands.within in
       let none : n - i ≡ 0 = omega arith in
-      rw none at w.built
+      let words : true ≡ all_worded n xs = rw none at w.words in
+      let built : s ≡ site_of (parts_in n xs) = rw none at w.built in
+      rw (← words, built)

@@ -1,7 +1,7 @@
 -- Rules, "Writing a job": a job told by numbers. The code of a word is its place in its list, counted from 0, and a sub-area is four
 -- numbers: land use, cover, soil, area.
 -- Assumes nothing.
-use Rattle.std.specs.Prelude.{ℕ, zero, suc, ◌/◌, ◌%◌, Bool, true, ◌&&◌, List, [], ◌∷◌, eqb, leb, length, get_or, drop}
+use Rattle.std.specs.Prelude.{ℕ, zero, suc, ◌/◌, ◌%◌, Bool, true, ◌&&◌, List, [], ◌∷◌, eqb, leb, length, get_or, drop, Result, Err}
 use Rattle.laws.specs.Turn.{in_turn}
 use Rattle.refusal.specs.declared.Refusal.{Refusal}
 use Rattle.refusal.specs.declared.Refusal.TheVariants.{MalformedText, SiteFull}
@@ -9,8 +9,6 @@ use Rattle.site.specs.declared.SubArea.{SubArea}
 use Rattle.site.specs.Parts.{most_parts}
 use Rattle.job.specs.declared.Job.{Job}
 use Rattle.job.specs.Words.{nutrient_words, mode_words, task_words, land_words, cover_words, soil_words, nutrient_at, mode_at, task_at, land_at, cover_at, soil_at}
-use Rattle.writing.specs.declared.Written.{Written}
-use Rattle.writing.specs.declared.Written.TheVariants.{Refused}
 use Rattle.jobtext.specs.Text.{has_word, job_written, job_buffer}
 use Rattle.jobtext.specs.Records.{site_of}
 
@@ -79,8 +77,8 @@ code_tests c =
 
 -- What writing a job from its codes answers, and what the buffer holds afterwards: behind those tests, what writing the job with the
 -- record of its sub-areas does.
-unfoldable pub codes_written : List ℕ → Codes → Written
-codes_written buf c = in_turn Refused (job_written buf (job_in c) (site_of (areas_in c))) (code_tests c)
+unfoldable pub codes_written : List ℕ → Codes → Result ℕ Refusal
+codes_written buf c = in_turn Err (job_written buf (job_in c) (site_of (areas_in c))) (code_tests c)
 
 unfoldable pub codes_buffer : List ℕ → Codes → List ℕ
 codes_buffer buf c = in_turn (λ why. buf) (job_buffer buf (job_in c) (site_of (areas_in c))) (code_tests c)

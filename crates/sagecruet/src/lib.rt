@@ -14,14 +14,16 @@ ghost use Rattle.rewrite.specs.Rewriting.{rewritten_of};
 ghost use Rattle.sagecruet.specs.Codes.{told, codes_written, codes_buffer};
 ghost use Rattle.sagecruet.specs.Numbers.{of_written, of_job, of_span, of_check, of_verdict, of_percent, of_rate, mode_of, reading_in};
 
-use curve::Mode;
-use probe::{RateAnswer, Reading};
+use curve::{Basis, Mode, SheetError};
+use probe::Reading;
 use refusal::Refusal;
-use review::Checked;
-use units::{Depth, Rate};
-use writing::Written;
+use sheet::{Fault, Sheet};
+use units::{Depth, Percent, Rate};
 
 mod codes;
+
+// The structs of include/sagecruet.h: C has no enum that holds a value, so the number given back stands beside values that are 0 where it
+// refuses. The functions of_.. turn what the crates answer into them.
 
 // A part of a job text: the place of its first byte, and its length.
 #[repr(C)]
@@ -77,66 +79,66 @@ pub struct Value {
 }
 
 // The length of what was written.
-fn of_written(written: Written) -> usize
+fn of_written(written: Result<usize, Refusal>) -> usize
     ensures { result ≡ of_written written }
 {
     match written {
-        Written::Granted(length) => length,
-        Written::Refused(_) => 0,
+        Ok(length) => length,
+        Err(_) => 0,
     }
 }
 
-fn of_job(written: Written) -> JobWritten
+fn of_job(written: Result<usize, Refusal>) -> JobWritten
     ensures { result ≡ of_job written }
 {
     match written {
-        Written::Granted(length) => JobWritten {
+        Ok(length) => JobWritten {
             answer: 0,
             len: length,
         },
-        Written::Refused(why) => JobWritten {
+        Err(why) => JobWritten {
             answer: refusal::number(why),
             len: 0,
         },
     }
 }
 
-fn of_verdict(verdict: sheet::Verdict) -> Verdict
+fn of_verdict(verdict: Result<(), Fault>) -> Verdict
     ensures { result ≡ of_verdict verdict }
 {
     match verdict {
-        sheet::Verdict::Fine => Verdict {
+        Ok(()) => Verdict {
             answer: 0,
             list: 0,
             place: 0,
         },
-        sheet::Verdict::Unfit { list, place } => Verdict {
+        Err(fault) => Verdict {
             answer: refusal::number(Refusal::UnfitSheet),
-            list,
-            place: place as u64,
+            list: fault.part.number(),
+            place: fault.place as u64,
         },
     }
 }
 
-fn of_percent(found: curve::PercentAnswer) -> PercentAnswer
+fn of_percent(found: Result<(Percent, Basis), SheetError>) -> PercentAnswer
     ensures { result ≡ of_percent found }
 {
     match found {
-        curve::PercentAnswer::Granted(percent, basis) => PercentAnswer {
+        Ok((percent, basis)) => PercentAnswer {
             answer: 0,
             percent: percent.0,
-            basis: curve::basis_number(basis),
+            basis: basis.number(),
             list: 0,
             place: 0,
         },
-        curve::PercentAnswer::BadSheet { list, place } => PercentAnswer {
+        Err(SheetError::Unfit(fault)) => PercentAnswer {
             answer: refusal::number(Refusal::UnfitSheet),
             percent: 0,
             basis: 0,
-            list,
-            place: place as u64,
+            list: fault.part.number(),
+            place: fault.place as u64,
         },
-        curve::PercentAnswer::Refused(why) => PercentAnswer {
+        Err(SheetError::Refused(why)) => PercentAnswer {
             answer: refusal::number(why),
             percent: 0,
             basis: 0,
@@ -146,15 +148,15 @@ fn of_percent(found: curve::PercentAnswer) -> PercentAnswer
     }
 }
 
-fn of_rate(found: RateAnswer) -> Value
+fn of_rate(found: Result<Rate, Refusal>) -> Value
     ensures { result ≡ of_rate found }
 {
     match found {
-        RateAnswer::Granted(rate) => Value {
+        Ok(rate) => Value {
             answer: 0,
             value: rate.0,
         },
-        RateAnswer::Refused(why) => Value {
+        Err(why) => Value {
             answer: refusal::number(why),
             value: 0,
         },
@@ -187,7 +189,7 @@ pub fn sagecruet_answer(text: &[u8], buf: &mut [u8]) -> usize
     of_written(calculator::answer(text, buf))
 }
 
-// The answer text of a job on a lent sheet.
+// The answer text of a job on a lent sheet: a call of its own, as C has it. C lends three lists, which become a Sheet here.
 pub fn sagecruet_answer_on(
     text: &[u8],
     depths: &[u64],
@@ -198,7 +200,12 @@ pub fn sagecruet_answer_on(
     ensures value { result ≡ of_written (written_of buf.old (answer_text (outcome_of (by_lent depths.now rates.now percents.now) text.now))) }
     ensures buf_after { buf.new ≡ buffer_of buf.old (answer_text (outcome_of (by_lent depths.now rates.now percents.now) text.now)) }
 {
-    of_written(calculator::answer_on(text, depths, rates, percents, buf))
+    let sheet = Sheet {
+        depths,
+        rates,
+        percents,
+    };
+    of_written(calculator::answer_on(text, sheet, buf))
 }
 
 // The offending part of a job text.
@@ -216,17 +223,16 @@ pub fn sagecruet_fault(text: &[u8]) -> Part
 pub fn sagecruet_check(text: &[u8], claimed: &[u8]) -> Check
     ensures { result ≡ of_check (given claimed.now (check_of text.now claimed.now)) }
 {
-    let found = review::check(text, claimed);
-    match found {
-        Checked::Right => Check {
+    match review::check(text, claimed) {
+        Ok(()) => Check {
             line: 0,
             from: claimed.len(),
             len: 0,
         },
-        Checked::Wrong { line, from, to } => Check {
-            line: line as u64,
-            from,
-            len: to - from,
+        Err(wrong) => Check {
+            line: wrong.line as u64,
+            from: wrong.from,
+            len: wrong.to - wrong.from,
         },
     }
 }
@@ -259,7 +265,12 @@ pub fn sagecruet_job(
 pub fn sagecruet_sheet(depths: &[u64], rates: &[u64], percents: &[u64]) -> Verdict
     ensures { result ≡ of_verdict (verdict_of depths.now rates.now percents.now) }
 {
-    of_verdict(sheet::judge(depths, rates, percents))
+    let sheet = Sheet {
+        depths,
+        rates,
+        percents,
+    };
+    of_verdict(sheet.judge())
 }
 
 // The percent of a sheet at a rate and a depth, with its basis.
@@ -273,14 +284,12 @@ pub fn sagecruet_percent(
 ) -> PercentAnswer
     ensures { result ≡ of_percent (percent_answer depths.now rates.now percents.now (mode_of mix) rate depth) }
 {
-    of_percent(curve::percent(
+    let sheet = Sheet {
         depths,
         rates,
         percents,
-        mode_of(mix),
-        Rate(rate),
-        Depth(depth),
-    ))
+    };
+    of_percent(curve::percent(sheet, mode_of(mix), Rate(rate), Depth(depth)))
 }
 
 // The rate of a probe reading.

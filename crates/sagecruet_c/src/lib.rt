@@ -1,4 +1,5 @@
-// The C interface: each call of `sagecruet` under the name that include/sagecruet.h has for it, with its clauses.
+// The C interface: each call of `sagecruet` under the name that include/sagecruet.h has for it, with its clauses. Each stands twice, here
+// and there: a crate is a static library for C or one that others name, and not both.
 #![tactic(auto)]
 
 ghost use Rattle.std.specs.Prelude.{◌≡◌};

@@ -1,5 +1,4 @@
-pub mod Steps
-pub mod Carrying
+pub mod Finding
 pub mod Lengths
 pub mod Verdicts
 pub mod Rules

@@ -8,6 +8,7 @@ use mathlib.Core.Path.{◌≡◌, refl, sym, ap}
 use native.Mathlib.Nat.{le_of_lt}
 use native.Mathlib.Omega.{arith}
 use lib.Dec.{ltb}
+use Rattle.std.specs.Prelude.{Result, Ok, Err}
 use lib.ListN.{length, get_or}
 use borrow.Author.Tests.{ltb-true, ltb-false}
 use Rattle.laws.proofs.First.{first_before, first_fails, first_is}
@@ -16,19 +17,19 @@ use Rattle.refusal.specs.declared.Refusal.TheVariants.{UnfitSheet}
 use Rattle.refusal.specs.Refusal.{number_of, granted}
 use Rattle.refusal.proofs.Numbers.{refusal_not_granted}
 use Rattle.units.specs.Limits.{most_rate, most_percent, highest_depth}
-use Rattle.sheet.specs.declared.Verdict.{Verdict}
-use Rattle.sheet.specs.declared.Verdict.TheVariants.{Fine, Unfit}
-use Rattle.sheet.specs.Sheet.{previous, in_step, offending, offending_depth, offending_rate, offending_percent, lengths_fit, without_rates, verdict_of, given}
+use Rattle.sheet.specs.declared.Fault.{Fault}
+use Rattle.sheet.specs.declared.Part.TheVariants.{Lengths, Depths, Rates, Percents}
+use Rattle.sheet.specs.Sheet.{previous, in_step, offending, offending_depth, offending_rate, offending_percent, lengths_fit, without_rates, unfit, fine, verdict_of, given}
 use Rattle.sheet.specs.Promises.{FineExactly, FirstOut, Fit, UnfitAt, FirstOffending, RefusedExactly}
 use Rattle.sheet.proofs.Rules.{in_step_is, is_in_step, none_offends, in_step_none, rates_kept, kept_rates, fine_rules, rules_fine}
 use Rattle.sheet.proofs.Verdicts.{unfit_lengths, unfit_depths, unfit_rates, unfit_percents}
 
 pub fine_exactly : FineExactly
-fine_exactly ds rs ps = (λ e. fine_rules ds rs ps (told (verdict_of ds rs ps) e), λ r. ap (λ (v : Verdict). (given v).0) (rules_fine ds rs ps r))
+fine_exactly ds rs ps = (λ e. fine_rules ds rs ps (told (verdict_of ds rs ps) e), λ r. ap (λ (v : Result (Unit {0}) Fault). (given v).0) (rules_fine ds rs ps r))
   where
-    told : (v : Verdict) → (given v).0 ≡ granted → v ≡ Fine
-    told Fine e = refl
-    told (Unfit list place) e = absurd (refusal_not_granted UnfitSheet e)
+    told : (v : Result (Unit {0}) Fault) → (given v).0 ≡ granted → v ≡ fine
+    told (Ok _) e = refl
+    told (Err fault) e = absurd (refusal_not_granted UnfitSheet e)
 
 -- An offending place below the length is the first that is out of step.
 module _ (xs : List ℕ) (n gap most : ℕ) where
@@ -51,8 +52,8 @@ module _ (xs : List ℕ) (n gap most : ℕ) where
       (passes_or_fails (test place)))
 
 -- The verdict as its four tests make it, with the places of the three lists.
-abbrev chain : Bool → Bool → Bool → Bool → ℕ → ℕ → ℕ → Verdict
-chain b c d e x y z = cond b (cond c (Unfit 1 x) (cond d (Unfit 2 y) (cond e (Unfit 3 z) Fine))) (Unfit 0 0)
+abbrev chain : Bool → Bool → Bool → Bool → ℕ → ℕ → ℕ → Result (Unit {0}) Fault
+chain b c d e x y z = cond b (cond c (unfit Depths x) (cond d (unfit Rates y) (cond e (unfit Percents z) fine))) (unfit Lengths 0)
 
 -- What the number, list and place that it gives back tell of the tests.
 record Told (b c d e : Bool) (x y z list place : ℕ) : Type 0 where

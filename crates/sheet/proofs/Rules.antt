@@ -8,37 +8,37 @@ use mathlib.Core.Path.{◌≡◌, refl}
 use native.Mathlib.Nat.{le_antisymm, le_of_eq, le_refl}
 use native.Mathlib.Omega.{arith}
 use lib.Dec.{leb, ltb}
+use Rattle.std.specs.Prelude.{Result}
 use lib.ListN.{length, get_or}
 use borrow.Author.Tests.{leb-true, le-leb, ltb-false, le-ltb, eq-eqb}
 use Rattle.laws.proofs.And.{and_left, and_right}
 use Rattle.laws.proofs.First.{first_le, first_all, first_is}
 use Rattle.laws.proofs.Order.{passes_or_fails, never_both}
 use Rattle.units.specs.Limits.{most_rate, most_percent, highest_depth}
-use Rattle.sheet.specs.declared.Verdict.{Verdict}
-use Rattle.sheet.specs.declared.Verdict.TheVariants.{Fine, Unfit}
-use Rattle.sheet.specs.Sheet.{most_depths, most_rates, previous, in_step, offending, offending_depth, offending_rate, offending_percent, lengths_fit, without_rates, list_judged, verdict_of}
+use Rattle.sheet.specs.declared.Fault.{Fault}
+use Rattle.sheet.specs.declared.Part.{Part}
+use Rattle.sheet.specs.declared.Part.TheVariants.{Lengths, Depths, Rates, Percents}
+use Rattle.sheet.specs.Sheet.{most_depths, most_rates, previous, in_step, offending, offending_depth, offending_rate, offending_percent, lengths_fit, without_rates, unfit, fine, list_judged, verdict_of}
 use Rattle.sheet.specs.Rules.{StepAt, InStep, Rules}
 use Rattle.sheet.proofs.Lengths.{lengths_kept}
 
 -- No unfit verdict is a fine one.
-unfit_fine : {list place : ℕ} → Unfit list place ≡ Fine → ⊥
-unfit_fine e =
-    let z : ◌≡◌ {A = ℕ} 0 1 = cc in
-    omega arith
+unfit_fine : {part : Part} {place : ℕ} → unfit part place ≡ fine → ⊥
+unfit_fine e = cc
 
 -- A choice comes out fine, where the other arm is unfit.
-chose : (b : Bool) (v : Verdict) → cond b v (Unfit 0 0) ≡ Fine → (b ≡ true) × (v ≡ Fine)
+chose : (b : Bool) (v : Result (Unit {0}) Fault) → cond b v (unfit Lengths 0) ≡ fine → (b ≡ true) × (v ≡ fine)
 chose true v e = (refl, e)
 chose false v e = absurd (unfit_fine e)
 
-passed_over : (b : Bool) (list place : ℕ) (v : Verdict) → cond b (Unfit list place) v ≡ Fine → (b ≡ false) × (v ≡ Fine)
-passed_over true list place v e = absurd (unfit_fine e)
-passed_over false list place v e = (refl, e)
+passed_over : (b : Bool) (part : Part) (place : ℕ) (v : Result (Unit {0}) Fault) → cond b (unfit part place) v ≡ fine → (b ≡ false) × (v ≡ fine)
+passed_over true part place v e = absurd (unfit_fine e)
+passed_over false part place v e = (refl, e)
 
 -- A list that is passed over has no offending place.
-none : (list place count : ℕ) (next : Verdict) → list_judged list place count next ≡ Fine → (count ≤ place) × (next ≡ Fine)
-none list place count next e =
-    let p = passed_over (ltb place count) list place next e in
+none : (part : Part) (place count : ℕ) (next : Result (Unit {0}) Fault) → list_judged part place count next ≡ fine → (count ≤ place) × (next ≡ fine)
+none part place count next e =
+    let p = passed_over (ltb place count) part place next e in
     (ltb-false place count p.0, p.1)
 
 -- One list: no place offends exactly where every number is in step.
@@ -89,16 +89,16 @@ module _ (rs : List ℕ) where
 
 module _ (ds rs ps : List ℕ) where
   -- A sheet that is judged fine keeps the rules.
-  pub fine_rules : verdict_of ds rs ps ≡ Fine → Rules ds rs ps
+  pub fine_rules : verdict_of ds rs ps ≡ fine → Rules ds rs ps
   unfolding verdict_of
   fine_rules e =
-      let percents = list_judged 3 (offending_percent (length ds) ps) (length ps) Fine in
-      let rates = list_judged 2 (offending_rate rs) (length rs) percents in
-      let depths = list_judged 1 (offending_depth ds) (length ds) rates in
+      let percents = list_judged Percents (offending_percent (length ds) ps) (length ps) fine in
+      let rates = list_judged Rates (offending_rate rs) (length rs) percents in
+      let depths = list_judged Depths (offending_depth ds) (length ds) rates in
       let a = chose (lengths_fit (length ds) (length rs) (length ps)) depths e in
-      let b = none 1 (offending_depth ds) (length ds) rates a.1 in
-      let c = none 2 (offending_rate rs) (length rs) percents b.1 in
-      let d = none 3 (offending_percent (length ds) ps) (length ps) Fine c.1 in
+      let b = none Depths (offending_depth ds) (length ds) rates a.1 in
+      let c = none Rates (offending_rate rs) (length rs) percents b.1 in
+      let d = none Percents (offending_percent (length ds) ps) (length ps) fine c.1 in
       let l = lengths_kept (length ds) (length rs) (length ps) a.0 in
       record {
         some_depths = l.0;
@@ -112,7 +112,7 @@ module _ (ds rs ps : List ℕ) where
       }
 
   -- A sheet that keeps the rules is judged fine.
-  pub rules_fine : Rules ds rs ps → verdict_of ds rs ps ≡ Fine
+  pub rules_fine : Rules ds rs ps → verdict_of ds rs ps ≡ fine
   unfolding verdict_of lengths_fit
   rules_fine s =
       simp (

@@ -1,12 +1,13 @@
 -- Rules, "Curve sheets": the rules of a sheet, and the verdict on one that is lent.
 -- Assumes nothing.
-use Rattle.std.specs.Prelude.{ℕ, ◌+◌, ◌-◌, ◌*◌, ◌%◌, Bool, cond, ◌&&◌, List, leb, ltb, eqb, length, get_or}
+use Rattle.std.specs.Prelude.{ℕ, ◌+◌, ◌-◌, ◌*◌, ◌%◌, Bool, cond, ◌&&◌, List, leb, ltb, eqb, length, get_or, Option, Some, None, Result, Ok, Err}
 use Rattle.laws.specs.First.{first}
 use Rattle.refusal.specs.declared.Refusal.TheVariants.{UnfitSheet}
 use Rattle.refusal.specs.Refusal.{number_of, granted}
 use Rattle.units.specs.Limits.{most_rate, most_percent, highest_depth}
-use Rattle.sheet.specs.declared.Verdict.{Verdict}
-use Rattle.sheet.specs.declared.Verdict.TheVariants.{Fine, Unfit}
+use Rattle.sheet.specs.declared.Fault.{Fault}
+use Rattle.sheet.specs.declared.Part.{Part}
+use Rattle.sheet.specs.declared.Part.TheVariants.{Lengths, Depths, Rates, Percents}
 
 abbrev pub most_depths : ℕ
 most_depths = 16
@@ -47,20 +48,38 @@ offending_rate rs = cond (without_rates rs) (length rs) (offending rs (length rs
 abbrev pub offending_percent : ℕ → List ℕ → ℕ
 offending_percent n ps = offending ps n 0 most_percent
 
+-- a place below a length is found, and one that is not is none
+abbrev pub found : ℕ → ℕ → Option ℕ
+found place count = cond (ltb place count) (Some place) None
+
+-- a part that breaks a rule, with its first offending place
+abbrev pub unfit : Part → ℕ → Result (Unit {0}) Fault
+unfit part place = Err (record { part = part; place = place })
+
+abbrev pub fine : Result (Unit {0}) Fault
+fine = Ok tt
+
 -- a list with an offending place below its length is unfit there; else the next one decides
-abbrev pub list_judged : ℕ → ℕ → ℕ → Verdict → Verdict
-list_judged list place count next = cond (ltb place count) (Unfit list place) next
+abbrev pub list_judged : Part → ℕ → ℕ → Result (Unit {0}) Fault → Result (Unit {0}) Fault
+list_judged part place count next = cond (ltb place count) (unfit part place) next
 
 -- the lengths first, then depths, rates and percents in this order
-unfoldable pub verdict_of : List ℕ → List ℕ → List ℕ → Verdict
+unfoldable pub verdict_of : List ℕ → List ℕ → List ℕ → Result (Unit {0}) Fault
 verdict_of ds rs ps =
     cond (lengths_fit (length ds) (length rs) (length ps))
-    (list_judged 1 (offending_depth ds) (length ds)
-    (list_judged 2 (offending_rate rs) (length rs)
-    (list_judged 3 (offending_percent (length ds) ps) (length ps) Fine)))
-    (Unfit 0 0)
+    (list_judged Depths (offending_depth ds) (length ds)
+    (list_judged Rates (offending_rate rs) (length rs)
+    (list_judged Percents (offending_percent (length ds) ps) (length ps) fine)))
+    (unfit Lengths 0)
 
--- the rules' number, list and place
-abbrev pub given : Verdict → ℕ × ℕ × ℕ
-given Fine = (granted, 0, 0)
-given (Unfit list place) = (number_of UnfitSheet, list, place)
+-- the number of a part: 0 for wrong lengths, 1 depths, 2 rates, 3 percents
+abbrev pub part_number : Part → ℕ
+part_number Lengths = 0
+part_number Depths = 1
+part_number Rates = 2
+part_number Percents = 3
+
+-- the rules' number, the part's number and the place
+abbrev pub given : Result (Unit {0}) Fault → ℕ × ℕ × ℕ
+given (Ok _) = (granted, 0, 0)
+given (Err fault) = (number_of UnfitSheet, part_number fault.part, fault.place)

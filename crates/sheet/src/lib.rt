@@ -1,8 +1,8 @@
 // Rules, "Curve sheets": the test of a sheet, lent as its depths, its rates, and its percents rate by rate.
 #![tactic(auto)]
 
-ghost use Rattle.std.specs.Prelude.{◌*◌, ◌%◌, ◌≡◌, eqb, length};
-ghost use Rattle.sheet.specs.Sheet.{previous, in_step, offending, lengths_fit, offending_rate, offending_percent, without_rates, verdict_of};
+ghost use Rattle.std.specs.Prelude.{◌≡◌, ◌*◌, ◌%◌, eqb, length};
+ghost use Rattle.sheet.specs.Sheet.{previous, in_step, offending, lengths_fit, offending_rate, without_rates, found, part_number, verdict_of};
 
 use units::Depth;
 
@@ -10,14 +10,42 @@ pub const MOST_DEPTHS: usize = 16;
 
 pub const MOST_RATES: usize = 8;
 
+// A sheet that is lent: its percents stand rate by rate, one for each depth.
 #[derive(Clone, Copy)]
-pub enum Verdict {
-    Fine,
-    // List 1 depths, 2 rates, 3 percents, and the first offending place; 0 and 0 for wrong lengths.
-    Unfit { list: u64, place: usize },
+pub struct Sheet<'a> {
+    pub depths: &'a [u64],
+    pub rates: &'a [u64],
+    pub percents: &'a [u64],
 }
 
-// The number before the one at place k in its row of n, 0 at the start of a row, and 0 where there is none.
+// What of a sheet breaks a rule, in the order in which it is tried: a part's number is its place in it.
+#[derive(Clone, Copy, PartialEq, Eq, Debug)]
+pub enum Part {
+    Lengths,
+    Depths,
+    Rates,
+    Percents,
+}
+
+impl Part {
+    // The rules' number of a part.
+    pub fn number(self) -> u64
+        ensures { result ≡ part_number self }
+    {
+        self as u64
+    }
+}
+
+// The first part of a sheet that breaks a rule, and the first offending place in it: 0 for wrong lengths.
+#[derive(Clone, Copy, PartialEq, Eq, Debug)]
+pub struct Fault {
+    pub part: Part,
+    pub place: usize,
+}
+
+// The number before the one at place k in its row of n, 0 at the start of a row, and 0 where there is none. It is a number and no Option:
+// each curve starts at depth 0 and percent 0 (the theorem ThroughOrigin of curve).
+#[tactic(auto, unfolding(crate::specs::Sheet::previous))]
 pub fn previous(xs: &[u64], n: usize, k: usize) -> u64
     ensures { result ≡ previous xs.now n k }
 {
@@ -41,121 +69,82 @@ fn starts_row(n: usize, k: usize) -> bool
 }
 
 // Whether x is at least gap above low, and at most most. Nothing is added, so nothing can wrap.
+#[tactic(auto, unfolding(crate::specs::Sheet::in_step))]
 fn in_step(gap: u64, most: u64, low: u64, x: u64) -> bool
     ensures { result ≡ in_step gap most low x }
 {
-    if most < x {
-        return false;
-    }
-    if x < low {
-        return false;
-    }
-    gap <= x - low
+    x <= most && low <= x && gap <= x - low
 }
 
-// The first place of a row whose number is not in step, or its length. The walk carries the number before.
-fn offending(xs: &[u64], gap: u64, most: u64) -> usize
-    ensures { result ≡ offending xs.now (length xs.now) gap most }
+// The first place in rows of n whose number is not in step.
+fn offending(xs: &[u64], n: usize, gap: u64, most: u64) -> Option<usize>
+    ensures { result ≡ found (offending xs.now n gap most) (length xs.now) }
 {
-    let mut low: u64 = 0;
-    let mut i = 0;
-    while i < xs.len() {
-        let x = xs[i];
-        if !in_step(gap, most, low, x) {
-            return i;
-        }
-        low = x;
-        i += 1;
-    }
-    i
-}
-
-// The first percent out of step, row by row: there are as many rows of n as there are rates.
-fn offending_percent(percents: &[u64], n: usize, rates: usize) -> usize
-    requires { length percents.now ≡ rates * n }
-    ensures { result ≡ offending_percent n percents.now }
-{
-    let mut j = 0;
-    while j < rates {
-        let start = j * n;
-        let end = start + n;
-        let place = offending(&percents[start..end], 0, units::MOST_PERCENT);
-        if place < n {
-            return start + place;
-        }
-        j += 1;
-    }
-    percents.len()
+    (0..xs.len()).find(|&k| !in_step(gap, most, previous(xs, n, k), xs[k]))
 }
 
 // 1 to 16 depths, 1 to 8 rates, and one percent for each rate at each depth.
+#[tactic(auto, unfolding(crate::specs::Sheet::lengths_fit))]
 fn lengths_fit(depths: usize, rates: usize, percents: usize) -> bool
     ensures { result ≡ lengths_fit depths rates percents }
 {
-    if depths < 1 {
-        return false;
-    }
-    if MOST_DEPTHS < depths {
-        return false;
-    }
-    if rates < 1 {
-        return false;
-    }
-    if MOST_RATES < rates {
-        return false;
-    }
-    percents == rates * depths
+    1 <= depths
+        && depths <= MOST_DEPTHS
+        && 1 <= rates
+        && rates <= MOST_RATES
+        && percents == rates * depths
 }
 
 // The first rate out of step, unless there is the single rate 0.
-fn offending_rate(rates: &[u64]) -> usize
-    ensures { result ≡ offending_rate rates.now }
+#[tactic(auto, unfolding(crate::specs::Sheet::offending_rate))]
+fn offending_rate(rates: &[u64]) -> Option<usize>
+    ensures { result ≡ found (offending_rate rates.now) (length rates.now) }
 {
     if without_rates(rates) {
-        return rates.len();
+        return None;
     }
-    offending(rates, 1, units::MOST_RATE)
+    offending(rates, rates.len(), 1, units::MOST_RATE)
 }
 
 // Whether there is the single rate 0, which a practice without rates has.
-#[tactic(auto, using(crate::proofs::Verdicts::single))]
+#[tactic(auto, unfolding(crate::specs::Sheet::without_rates))]
 pub fn without_rates(rates: &[u64]) -> bool
     ensures { result ≡ without_rates rates.now }
 {
-    if rates.len() == 1 {
-        return rates[0] == 0;
-    }
-    false
+    matches!(rates, [0])
 }
 
-// The verdict on a sheet: its lengths, then its depths, its rates and its percents.
-pub fn judge(depths: &[u64], rates: &[u64], percents: &[u64]) -> Verdict
-    ensures { result ≡ verdict_of depths.now rates.now percents.now }
-{
-    let n = depths.len();
-    if !lengths_fit(n, rates.len(), percents.len()) {
-        return Verdict::Unfit { list: 0, place: 0 };
+impl Sheet<'_> {
+    // The verdict on a sheet: its lengths, then its depths, its rates and its percents.
+    #[tactic(auto, unfolding(crate::specs::Sheet::verdict_of))]
+    pub fn judge(self) -> Result<(), Fault>
+        ensures { result ≡ verdict_of self.entry.depths.now self.entry.rates.now self.entry.percents.now }
+    {
+        let n = self.depths.len();
+        if !lengths_fit(n, self.rates.len(), self.percents.len()) {
+            return Err(Fault {
+                part: Part::Lengths,
+                place: 0,
+            });
+        }
+        if let Some(place) = offending(self.depths, n, 1, Depth::HIGHEST) {
+            return Err(Fault {
+                part: Part::Depths,
+                place,
+            });
+        }
+        if let Some(place) = offending_rate(self.rates) {
+            return Err(Fault {
+                part: Part::Rates,
+                place,
+            });
+        }
+        if let Some(place) = offending(self.percents, n, 0, units::MOST_PERCENT) {
+            return Err(Fault {
+                part: Part::Percents,
+                place,
+            });
+        }
+        Ok(())
     }
-    let depth = offending(depths, 1, Depth::HIGHEST);
-    if depth < n {
-        return Verdict::Unfit {
-            list: 1,
-            place: depth,
-        };
-    }
-    let rate = offending_rate(rates);
-    if rate < rates.len() {
-        return Verdict::Unfit {
-            list: 2,
-            place: rate,
-        };
-    }
-    let percent = offending_percent(percents, n, rates.len());
-    if percent < percents.len() {
-        return Verdict::Unfit {
-            list: 3,
-            place: percent,
-        };
-    }
-    Verdict::Fine
 }

@@ -1,6 +1,8 @@
 -- What stands in a record past its count changes nothing: two records that agree up to the count and in the counter are answered
 -- alike.
 -- Assumes nothing.
+use Rattle.std.specs.Prelude.{Result, Ok, Err}
+use Rattle.refusal.specs.declared.Refusal.{Refusal}
 use Prim.Native.Nat.{ℕ, ◌+◌, ◌-◌, ◌<◌}
 use mathlib.Core.Bool.{Bool, true, false}
 use mathlib.Core.List.{List, [], ◌∷◌, ◌++◌}
@@ -13,8 +15,6 @@ use Rattle.refusal.specs.declared.Refusal.TheVariants.{SiteFull, NumberNotHeld}
 use Rattle.units.specs.declared.Area.{Area}
 use Rattle.site.specs.declared.SubArea.{SubArea}
 use Rattle.site.specs.declared.Site.{Site}
-use Rattle.site.specs.declared.AreaAnswer.{AreaAnswer}
-use Rattle.site.specs.declared.AreaAnswer.TheVariants.{Granted, Refused}
 use Rattle.site.specs.Parts.{most_parts, numbers_of, area_of, blank}
 use Rattle.site.specs.Judging.{judged_from, after_judging, rises_to, with_numbers, judged, impervious}
 use Rattle.site.specs.Adding.{kept, stored, settled, add_answer, added_to, added}
@@ -31,8 +31,8 @@ module _ (s t : Site) (r : Alike s t) where
   judged_alike = ap_all r.count r.parts r.numbers r.counter
     where
       ap_all : {n m c d : ℕ} {ps qs : List SubArea} {ks ls : List ℕ} → n ≡ m → ps ≡ qs → ks ≡ ls → c ≡ d
-          → in_turn Refused (after_judging Refused (with_numbers (rises_to c 0 ks)) (judged_from 0 ps)) ((leb n most_parts, SiteFull) ∷ [])
-          ≡ in_turn Refused (after_judging Refused (with_numbers (rises_to d 0 ls)) (judged_from 0 qs)) ((leb m most_parts, SiteFull) ∷ [])
+          → in_turn Err (after_judging Err (with_numbers (rises_to c 0 ks)) (judged_from 0 ps)) ((leb n most_parts, SiteFull) ∷ [])
+          ≡ in_turn Err (after_judging Err (with_numbers (rises_to d 0 ls)) (judged_from 0 qs)) ((leb m most_parts, SiteFull) ∷ [])
       ap_all e f g h = simp (e, f, g, h)
 
   impervious_alike : impervious s ≡ impervious t
@@ -43,9 +43,9 @@ module _ (s t : Site) (r : Alike s t) where
     answer_alike : add_answer s.count s.counter total p ≡ add_answer t.count t.counter total p
     answer_alike = λ i. add_answer (r.count i) (r.counter i) total p
 
-    settled_alike : (x : AreaAnswer) → ((settled s p x).answer ≡ (settled t p x).answer) × ((settled s p x).number ≡ (settled t p x).number)
-    settled_alike (Granted a) = (refl, r.counter)
-    settled_alike (Refused why) = (refl, refl)
+    settled_alike : (x : Result Area Refusal) → ((settled s p x).answer ≡ (settled t p x).answer) × ((settled s p x).number ≡ (settled t p x).number)
+    settled_alike (Ok a) = (refl, r.counter)
+    settled_alike (Err why) = (refl, refl)
 
     added_to_answer : ((added_to s total p).answer ≡ (added_to t total p).answer) × ((added_to s total p).number ≡ (added_to t total p).number)
     added_to_answer =
@@ -66,29 +66,29 @@ module _ (s t : Site) (r : Alike s t) where
     added_to_site y z =
         rw (add_settles s total p, add_settles t total p, ← answer_alike) (told (add_answer s.count s.counter total p) refl)
       where
-        told : (x : AreaAnswer) → add_answer s.count s.counter total p ≡ x → Alike (settled s p x).site (settled t p x).site
-        told (Granted a) e = stored_alike y z (grants s.count s.counter total p a e).place
-        told (Refused why) e = r
+        told : (x : Result Area Refusal) → add_answer s.count s.counter total p ≡ x → Alike (settled s p x).site (settled t p x).site
+        told (Ok a) e = stored_alike y z (grants s.count s.counter total p a e).place
+        told (Err why) e = r
 
   module _ (p : SubArea) where
     added_answer : ((added s p).answer ≡ (added t p).answer) × ((added s p).number ≡ (added t p).number)
     unfolding added
     added_answer = rw (← judged_alike) (told (judged s))
       where
-        told : (x : AreaAnswer)
+        told : (x : Result Area Refusal)
             → ((after_judging (kept s) (λ total. added_to s total p) x).answer ≡ (after_judging (kept t) (λ total. added_to t total p) x).answer)
             × ((after_judging (kept s) (λ total. added_to s total p) x).number ≡ (after_judging (kept t) (λ total. added_to t total p) x).number)
-        told (Granted total) = added_to_answer p total.0
-        told (Refused why) = (refl, refl)
+        told (Ok total) = added_to_answer p total.0
+        told (Err why) = (refl, refl)
 
     added_site : InMemory s → InMemory t → Alike (added s p).site (added t p).site
     unfolding added
     added_site y z = rw (← judged_alike) (told (judged s))
       where
-        told : (x : AreaAnswer)
+        told : (x : Result Area Refusal)
             → Alike (after_judging (kept s) (λ total. added_to s total p) x).site (after_judging (kept t) (λ total. added_to t total p) x).site
-        told (Granted total) = added_to_site p total.0 y z
-        told (Refused why) = r
+        told (Ok total) = added_to_site p total.0 y z
+        told (Err why) = r
 
   module _ (n : ℕ) where
     removed_from_answer : (total : ℕ) → (removed_from s total n).answer ≡ (removed_from t total n).answer
@@ -98,20 +98,20 @@ module _ (s t : Site) (r : Alike s t) where
         told : (b : Bool)
             → (in_turn (untouched s) (taken_out s total (place_of n (numbers_of t))) ((b, NumberNotHeld) ∷ [])).answer
             ≡ (in_turn (untouched t) (taken_out t total (place_of n (numbers_of t))) ((b, NumberNotHeld) ∷ [])).answer
-        told true = λ i. Granted (record { 0 = total - area_of (get_or (r.parts i) (place_of n (numbers_of t)) blank) })
+        told true = λ i. Ok (record { 0 = total - area_of (get_or (r.parts i) (place_of n (numbers_of t)) blank) })
         told false = refl
 
     removed_answer_lem : (removed s n).answer ≡ (removed t n).answer
     unfolding removed
     removed_answer_lem = rw (← judged_alike) (told (judged s))
       where
-        told : (x : AreaAnswer)
+        told : (x : Result Area Refusal)
             → (after_judging (untouched s) (λ total. removed_from s total n) x).answer ≡ (after_judging (untouched t) (λ total. removed_from t total n) x).answer
-        told (Granted total) = removed_from_answer total.0
-        told (Refused why) = refl
+        told (Ok total) = removed_from_answer total.0
+        told (Err why) = refl
 
     -- both have the number at the same place
-    without_alike : (a : Area) → InMemory s → InMemory t → (removed s n).answer ≡ Granted a → (removed t n).answer ≡ Granted a
+    without_alike : (a : Area) → InMemory s → InMemory t → (removed s n).answer ≡ Ok a → (removed t n).answer ≡ Ok a
         → Alike (removed s n).site (removed t n).site
     without_alike a y z e f =
         let here = from_held s n a e in
@@ -138,9 +138,9 @@ module _ (s t : Site) (r : Alike s t) where
     removed_site : InMemory s → InMemory t → Alike (removed s n).site (removed t n).site
     removed_site y z = told (removed s n).answer refl
       where
-        told : (x : AreaAnswer) → (removed s n).answer ≡ x → Alike (removed s n).site (removed t n).site
-        told (Granted a) e = without_alike a y z e (sym removed_answer_lem ∙ e)
-        told (Refused why) e = rw (keeps s n why e, keeps t n why (sym removed_answer_lem ∙ e)) r
+        told : (x : Result Area Refusal) → (removed s n).answer ≡ x → Alike (removed s n).site (removed t n).site
+        told (Ok a) e = without_alike a y z e (sym removed_answer_lem ∙ e)
+        told (Err why) e = rw (keeps s n why e, keeps t n why (sym removed_answer_lem ∙ e)) r
 
 pub past_count_unread : PastCountUnread
 past_count_unread s t r =

@@ -2,6 +2,7 @@ pub mod Parts
 pub mod Tests
 pub mod Judging
 pub mod Walking
+pub mod Trying
 pub mod Numbering
 pub mod Adding
 pub mod Removing

@@ -1,25 +1,17 @@
 -- Laws of numbers that rise: the walk over them, what is asked of them, one more and one less.
 -- Assumes nothing.
 use Prim.Native.Nat.{ℕ, zero, suc, ◌+◌, ◌≤◌, ◌<◌}
-use mathlib.Core.Bool.{Bool, true, false, ◌&&◌, and-eq-true_iff, and-true, and-false, and_assoc}
+use mathlib.Core.Bool.{Bool, true, ◌&&◌, and-eq-true_iff, and_assoc}
 use mathlib.Core.List.{List, [], ◌∷◌, ◌++◌}
-use mathlib.Core.Path.{◌≡◌, sym, ◌∙◌, ap}
+use mathlib.Core.Path.{◌≡◌, ◌∙◌}
 use native.Mathlib.Omega.{arith}
 use native.Mathlib.Numerals.{add-one}
 use lib.Dec.{ltb}
 use lib.ListN.{length, drop, get_or, drop_of_length-le}
 use lib.Seq.{drop-cons}
-use borrow.Author.Tests.{lt-ltb, le-ltb, ltb-true}
+use borrow.Author.Tests.{lt-ltb, ltb-true}
 use Rattle.site.specs.Judging.{rises_to}
 use Rattle.site.specs.Promises.{Rise}
-
--- A number above the last goes on with what rose so far,
-pub above_goes_on : (rises : Bool) (low n : ℕ) → low < n → rises ≡ (rises && ltb low n)
-above_goes_on rises low n h = rw (lt-ltb low n h) (sym (and-true rises))
-
--- and another ends it.
-pub below_ends : (rises : Bool) (low n : ℕ) → n ≤ low → false ≡ (rises && ltb low n)
-below_ends rises low n h = rw (le-ltb low n h) (sym (and-false rises))
 
 -- Whether the numbers before place i rise, up to `low`, decides with what is left.
 abbrev pub Rising : ℕ → List ℕ → Bool → ℕ → ℕ → Type 0
@@ -27,18 +19,17 @@ Rising counter ks rises low i = (rises && rises_to counter low (drop i ks)) ≡ 
 
 module _ (counter : ℕ) (ks : List ℕ) (rises : Bool) (low i : ℕ) (r : Rising counter ks rises low i) where
   -- The number at place i goes on, or ends it,
-  pub rise_on : i < length ks → {b : Bool} → b ≡ (rises && ltb low (get_or ks i 0)) → Rising counter ks b (get_or ks i 0) (i + 1)
+  pub rise_on : i < length ks → Rising counter ks (rises && ltb low (get_or ks i 0)) (get_or ks i 0) (i + 1)
   unfolding rises_to
-  rise_on h e =
+  rise_on h =
       rw add-one
-      (ap (λ (x : Bool). x && rises_to counter (get_or ks i 0) (drop (suc i) ks)) e
-      ∙ and_assoc rises (ltb low (get_or ks i 0)) (rises_to counter (get_or ks i 0) (drop (suc i) ks))
+      (and_assoc rises (ltb low (get_or ks i 0)) (rises_to counter (get_or ks i 0) (drop (suc i) ks))
       ∙ (rw (drop-cons ks i 0 h) at r))
 
   -- and where none is left, the counter does.
-  pub rise_ends : length ks ≤ i → {b : Bool} → b ≡ (rises && ltb low counter) → b ≡ rises_to counter 0 ks
+  pub rise_ends : length ks ≤ i → rises && ltb low counter ≡ rises_to counter 0 ks
   unfolding rises_to
-  rise_ends h e = e ∙ (rw (drop_of_length-le ks h) at r)
+  rise_ends h = rw (drop_of_length-le ks h) at r
 
 -- what is asked of numbers that rise from above `low`
 record RiseFrom (counter low : ℕ) (ks : List ℕ) : Type 0 where

@@ -1,5 +1,6 @@
 -- The promises of a site record, proved.
 -- Assumes nothing.
+use Rattle.std.specs.Prelude.{Result, Ok, Err}
 use Prim.Native.Nat.{ℕ, ◌+◌, ◌≤◌, ◌<◌}
 use mathlib.Core.Path.{◌≡◌, refl, sym, ◌∙◌, ap}
 use mathlib.Core.Bool.{true, and-eq-true_iff}
@@ -17,9 +18,7 @@ use Rattle.units.specs.declared.Area.{Area}
 use Rattle.units.specs.Limits.{most_area}
 use Rattle.site.specs.declared.SubArea.{SubArea}
 use Rattle.site.specs.declared.Site.{Site}
-use Rattle.site.specs.declared.Added.{Added}
-use Rattle.site.specs.declared.AreaAnswer.{AreaAnswer}
-use Rattle.site.specs.declared.AreaAnswer.TheVariants.{Granted, Refused}
+use Rattle.site.specs.Adding.{Added}
 use Rattle.site.specs.Parts.{most_parts, parts_of, numbers_of, area_of, total_area, blank, empty_site}
 use Rattle.site.specs.Judging.{fits, judged_from, after_judging, rises_to, judged, impervious, given}
 use Rattle.site.specs.Adding.{spent_at, kept, stored, settled, add_answer, added_to, added}
@@ -32,17 +31,17 @@ use Rattle.site.proofs.Refusing.{full_above, unnumbered_only, unnumbered_there, 
 use Rattle.site.proofs.Adding.{Grants, grants, add_unfit, add_full, add_spent, add_grows, add_settles, add_answers, add_agrees}
 
 -- the numbers given back tell the answer
-pub given_granted : (x : AreaAnswer) (a : ℕ) → given x ≡ (granted, a) → x ≡ Granted (record { 0 = a })
-given_granted (Granted area) a e = ap (λ (n : ℕ). Granted (record { 0 = n })) (ap (λ (g : ℕ × ℕ). g.1) e)
-given_granted (Refused why) a e = absurd (refusal_not_granted why (ap (λ (g : ℕ × ℕ). g.0) e))
+pub given_granted : (x : Result Area Refusal) (a : ℕ) → given x ≡ (granted, a) → x ≡ Ok (record { 0 = a })
+given_granted (Ok area) a e = ap (λ (n : ℕ). Ok (record { 0 = n })) (ap (λ (g : ℕ × ℕ). g.1) e)
+given_granted (Err why) a e = absurd (refusal_not_granted why (ap (λ (g : ℕ × ℕ). g.0) e))
 
-pub given_refused : (x : AreaAnswer) → ((given x).0 ≡ granted → ⊥) → (why : Refusal) × (x ≡ Refused why)
-given_refused (Granted area) h = absurd (h refl)
-given_refused (Refused why) h = (why, refl)
+pub given_refused : (x : Result Area Refusal) → ((given x).0 ≡ granted → ⊥) → (why : Refusal) × (x ≡ Err why)
+given_refused (Ok area) h = absurd (h refl)
+given_refused (Err why) h = (why, refl)
 
-pub given_some : (x : AreaAnswer) → (given x).0 ≡ granted → (a : Area) × (x ≡ Granted a)
-given_some (Granted area) h = (area, refl)
-given_some (Refused why) h = absurd (refusal_not_granted why h)
+pub given_some : (x : Result Area Refusal) → (given x).0 ≡ granted → (a : Area) × (x ≡ Ok a)
+given_some (Ok area) h = (area, refl)
+given_some (Err why) h = absurd (refusal_not_granted why h)
 
 pub numbered_exactly : NumberedExactly
 numbered_exactly s = (rises_are s.counter (numbers_of s), are_rising s.counter (numbers_of s))
@@ -54,7 +53,7 @@ fine_exactly s a = (
 )
 
 pub full_exactly : FullExactly
-full_exactly s = (full_above s, λ h. ap (λ (x : AreaAnswer). (given x).0) (sym (overfull s h)))
+full_exactly s = (full_above s, λ h. ap (λ (x : Result Area Refusal). (given x).0) (sym (overfull s h)))
 
 pub unnumbered_exactly : UnnumberedExactly
 unnumbered_exactly s = (unnumbered_only s, λ h. unnumbered_there s h.0 h.1 h.2 h.3)
@@ -71,7 +70,7 @@ adds_agree s p total e =
     (a, sym (add_answers s total p) ∙ ap (λ (x : Added). x.answer) a)
 
 -- An answer worked out from the count, the counter and the total of a record that is judged fine is what the add gives back.
-gives_back : (s : Site) (p : SubArea) (total : ℕ) {x : AreaAnswer} → given (judged s) ≡ (granted, total)
+gives_back : (s : Site) (p : SubArea) (total : ℕ) {x : Result Area Refusal} → given (judged s) ≡ (granted, total)
     → x ≡ add_answer s.count s.counter total p → given (added s p).answer ≡ given x
 gives_back s p total j e = ap given (sym (e ∙ (adds_agree s p total j).1))
 
@@ -95,7 +94,7 @@ add_granted_exactly s p total a j = (only, there)
         gives_back s p total j (add_grows s.count s.counter total p (sym h.0) refl h.1 h.2 (grow_granted total (area_of p) (sym room) refl))
         ∙ ap (λ (m : ℕ). (granted, m)) n
 
-refused_record : (s : Site) (p : SubArea) (why : Refusal) → judged s ≡ Refused why → (added s p).answer ≡ Refused why
+refused_record : (s : Site) (p : SubArea) (why : Refusal) → judged s ≡ Err why → (added s p).answer ≡ Err why
 unfolding added
 refused_record s p why e = simp e
 
@@ -116,9 +115,9 @@ add_refused s p = (fine, own)
     own : ((given (judged s)).0 ≡ granted → ⊥) → given (added s p).answer ≡ ((given (judged s)).0, 0)
     own h =
         let r = given_refused (judged s) h in
-        ap given (refused_record s p r.0 r.1) ∙ ap (λ (x : AreaAnswer). ((given x).0, 0)) (sym r.1)
+        ap given (refused_record s p r.0 r.1) ∙ ap (λ (x : Result Area Refusal). ((given x).0, 0)) (sym r.1)
 
-pub empty_judged : judged empty_site ≡ Granted (record { 0 = 0 })
+pub empty_judged : judged empty_site ≡ Ok (record { 0 = 0 })
 unfolding judged judged_from rises_to
 empty_judged = refl
 
@@ -132,7 +131,7 @@ same_total s t r =
     let there = given_some (judged t) r.second in
     let same = ap total_area r.parts in
     here.1
-    ∙ ap (λ (n : ℕ). Granted (record { 0 = n })) (sym (judged_has s here.0 here.1).2 ∙ same ∙ (judged_has t there.0 there.1).2)
+    ∙ ap (λ (n : ℕ). Ok (record { 0 = n })) (sym (judged_has s here.0 here.1).2 ∙ same ∙ (judged_has t there.0 there.1).2)
     ∙ sym there.1
 
 pub by_sub_areas_alone : BySubAreasAlone
@@ -140,19 +139,19 @@ unfolding impervious
 by_sub_areas_alone s t r = (same_total s t r, simp (same_total s t r, r.parts))
 
 -- A refused answer comes with the site as it was and no number.
-settled_refused : (s : Site) (p : SubArea) (x : AreaAnswer) {why : Refusal} → (settled s p x).answer ≡ Refused why → settled s p x ≡ kept s why
-settled_refused s p (Granted a) h = absurd (never_granted (sym h))
-settled_refused s p (Refused r) h = λ i. record { answer = h i; site = s; number = 0 }
+settled_refused : (s : Site) (p : SubArea) (x : Result Area Refusal) {why : Refusal} → (settled s p x).answer ≡ Err why → settled s p x ≡ kept s why
+settled_refused s p (Ok a) h = absurd (never_granted (sym h))
+settled_refused s p (Err r) h = λ i. record { answer = h i; site = s; number = 0 }
 
-pub keeps : (s : Site) (p : SubArea) (why : Refusal) → (added s p).answer ≡ Refused why → added s p ≡ kept s why
+pub keeps : (s : Site) (p : SubArea) (why : Refusal) → (added s p).answer ≡ Err why → added s p ≡ kept s why
 unfolding added
 keeps s p why = told (judged s)
   where
-    told : (x : AreaAnswer)
-        → (after_judging (kept s) (λ total. added_to s total p) x).answer ≡ Refused why
+    told : (x : Result Area Refusal)
+        → (after_judging (kept s) (λ total. added_to s total p) x).answer ≡ Err why
         → after_judging (kept s) (λ total. added_to s total p) x ≡ kept s why
-    told (Granted total) = rw (add_settles s total.0 p) (settled_refused s p (add_answer s.count s.counter total.0 p))
-    told (Refused r) = λ h i. record { answer = h i; site = s; number = 0 }
+    told (Ok total) = rw (add_settles s total.0 p) (settled_refused s p (add_answer s.count s.counter total.0 p))
+    told (Err r) = λ h i. record { answer = h i; site = s; number = 0 }
 
 pub refused_keeps : RefusedKeeps
 refused_keeps s p h =
@@ -161,19 +160,19 @@ refused_keeps s p h =
     (ap (λ (x : Added). x.site) k, ap (λ (x : Added). x.number) k)
 
 -- A granted answer comes with the sub-area stored and its number.
-settled_granted : (s : Site) (p : SubArea) (x : AreaAnswer) {a : Area} → (settled s p x).answer ≡ Granted a → settled s p x ≡ settled s p (Granted a)
-settled_granted s p (Granted b) h = λ i. record { answer = h i; site = stored s p; number = s.counter }
-settled_granted s p (Refused why) h = absurd (never_granted h)
+settled_granted : (s : Site) (p : SubArea) (x : Result Area Refusal) {a : Area} → (settled s p x).answer ≡ Ok a → settled s p x ≡ settled s p (Ok a)
+settled_granted s p (Ok b) h = λ i. record { answer = h i; site = stored s p; number = s.counter }
+settled_granted s p (Err why) h = absurd (never_granted h)
 
-pub stores : (s : Site) (p : SubArea) (a : Area) → (added s p).answer ≡ Granted a → added s p ≡ settled s p (Granted a)
+pub stores : (s : Site) (p : SubArea) (a : Area) → (added s p).answer ≡ Ok a → added s p ≡ settled s p (Ok a)
 unfolding added
 stores s p a = told (judged s)
   where
-    told : (x : AreaAnswer)
-        → (after_judging (kept s) (λ total. added_to s total p) x).answer ≡ Granted a
-        → after_judging (kept s) (λ total. added_to s total p) x ≡ settled s p (Granted a)
-    told (Granted total) = rw (add_settles s total.0 p) (settled_granted s p (add_answer s.count s.counter total.0 p))
-    told (Refused why) = λ h. absurd (never_granted h)
+    told : (x : Result Area Refusal)
+        → (after_judging (kept s) (λ total. added_to s total p) x).answer ≡ Ok a
+        → after_judging (kept s) (λ total. added_to s total p) x ≡ settled s p (Ok a)
+    told (Ok total) = rw (add_settles s total.0 p) (settled_granted s p (add_answer s.count s.counter total.0 p))
+    told (Err why) = λ h. absurd (never_granted h)
 
 pub only_the_place_at_the_count : OnlyThePlaceAtTheCount
 only_the_place_at_the_count s p h =
@@ -203,8 +202,8 @@ pub numbers_stored : (s : Site) (p : SubArea) → InMemory s → s.count < most_
 numbers_stored s p z h = let l = z.numbers in rw add-one (take-suc-set s.numbers s.count s.counter (omega arith))
 
 -- A site that is judged fine and has room is judged fine when a sub-area is stored.
-pub stored_fine : (s : Site) (p : SubArea) (total : Area) → InMemory s → judged s ≡ Granted total → fits p ≡ true → s.count < most_parts
-    → total.0 + area_of p ≤ most_area → judged (stored s p) ≡ Granted (record { 0 = total.0 + area_of p })
+pub stored_fine : (s : Site) (p : SubArea) (total : Area) → InMemory s → judged s ≡ Ok total → fits p ≡ true → s.count < most_parts
+    → total.0 + area_of p ≤ most_area → judged (stored s p) ≡ Ok (record { 0 = total.0 + area_of p })
 stored_fine s p total z j f h l =
     let e = parts_stored s p z h in
     let k = judged_has s total j in
@@ -216,16 +215,16 @@ stored_fine s p total z j f h l =
     (rw (numbers_stored s p z h) (rises_more s.counter 0 (numbers_of s) k.4))
 
 -- what a granted add tells of its record: it is judged fine with a total area from which the add is granted
-pub from_fine : (s : Site) (p : SubArea) (a : Area) → (added s p).answer ≡ Granted a
-    → (total : Area) × (judged s ≡ Granted total) × Grants s.count s.counter total.0 p a
+pub from_fine : (s : Site) (p : SubArea) (a : Area) → (added s p).answer ≡ Ok a
+    → (total : Area) × (judged s ≡ Ok total) × Grants s.count s.counter total.0 p a
 unfolding added
 from_fine s p a = told (judged s) refl
   where
-    told : (x : AreaAnswer) → judged s ≡ x
-        → (after_judging (kept s) (λ total. added_to s total p) x).answer ≡ Granted a
-        → (total : Area) × (judged s ≡ Granted total) × Grants s.count s.counter total.0 p a
-    told (Granted total) j e = (total, j, grants s.count s.counter total.0 p a (sym (add_answers s total.0 p) ∙ e))
-    told (Refused why) j e = absurd (never_granted e)
+    told : (x : Result Area Refusal) → judged s ≡ x
+        → (after_judging (kept s) (λ total. added_to s total p) x).answer ≡ Ok a
+        → (total : Area) × (judged s ≡ Ok total) × Grants s.count s.counter total.0 p a
+    told (Ok total) j e = (total, j, grants s.count s.counter total.0 p a (sym (add_answers s total.0 p) ∙ e))
+    told (Err why) j e = absurd (never_granted e)
 
 pub granted_holds : GrantedHolds
 granted_holds s p a z e =
@@ -234,7 +233,7 @@ granted_holds s p a z e =
     let g = f.2 in
     rw (stores s p (record { 0 = a }) x) (
       parts_stored s p z g.place,
-      ap given (stored_fine s p f.0 z f.1 g.fit g.place g.within ∙ ap Granted g.new_total),
+      ap given (stored_fine s p f.0 z f.1 g.fit g.place g.within ∙ ap Ok g.new_total),
       refl,
       numbers_stored s p z g.place,
       refl,

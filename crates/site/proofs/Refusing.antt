@@ -1,5 +1,7 @@
 -- What a refused record is refused for: its count, the first sub-area that does not pass, or its numbers.
 -- Assumes nothing.
+use Rattle.std.specs.Prelude.{Result, Ok, Err}
+use Rattle.refusal.specs.declared.Refusal.{Refusal}
 use Prim.Native.Nat.{ℕ, ◌+◌, ◌≤◌, ◌<◌}
 use mathlib.Core.Bool.{Bool, true, false}
 use mathlib.Core.List.{List, [], ◌∷◌, ◌++◌}
@@ -15,8 +17,6 @@ use Rattle.refusal.specs.Refusal.{number_of, granted}
 use Rattle.units.specs.Limits.{most_area}
 use Rattle.site.specs.declared.SubArea.{SubArea}
 use Rattle.site.specs.declared.Site.{Site}
-use Rattle.site.specs.declared.AreaAnswer.{AreaAnswer}
-use Rattle.site.specs.declared.AreaAnswer.TheVariants.{Granted, Refused}
 use Rattle.units.specs.declared.Area.{Area}
 use Rattle.site.specs.Parts.{most_parts, parts_of, area_of, total_area}
 use Rattle.site.specs.Judging.{fits, has_room, judged_from, after_judging, numbered, with_numbers, judged, given}
@@ -36,8 +36,8 @@ record RefusedFrom (total : ℕ) (parts : List SubArea) (number : ℕ) : Type 0 
       ⊎ ((fits refused ≡ true) × (most_area < total + total_area before + area_of refused) × (number ≡ number_of TotalAreaPassed))
 
 -- what the tests of a sub-area leave of the answer to those after it
-abbrev tried : Bool → Bool → AreaAnswer → AreaAnswer
-tried fit room rest = in_turn Refused rest ((fit, UnfitSubArea) ∷ (room, TotalAreaPassed) ∷ [])
+abbrev tried : Bool → Bool → Result Area Refusal → Result Area Refusal
+tried fit room rest = in_turn Err rest ((fit, UnfitSubArea) ∷ (room, TotalAreaPassed) ∷ [])
 
 -- A sub-area that passes stands before the one that is refused.
 one_more : (total : ℕ) (p : SubArea) (ps : List SubArea) (n : ℕ) → fits p ≡ true → RefusedFrom (total + area_of p) ps n → RefusedFrom total (p ∷ ps) n
@@ -59,7 +59,7 @@ one_more total p ps n f r =
     }
 
 -- one sub-area, with what is known of those after it
-step_refused : (total : ℕ) (p : SubArea) (ps : List SubArea) (b d : Bool) (x : AreaAnswer) → total ≤ most_area → fits p ≡ b → has_room total (area_of p) ≡ d
+step_refused : (total : ℕ) (p : SubArea) (ps : List SubArea) (b d : Bool) (x : Result Area Refusal) → total ≤ most_area → fits p ≡ b → has_room total (area_of p) ≡ d
     → (total + area_of p ≤ most_area → ((given x).0 ≡ granted → ⊥) → RefusedFrom (total + area_of p) ps (given x).0)
     → ((given (tried b d x)).0 ≡ granted → ⊥) → RefusedFrom total (p ∷ ps) (given (tried b d x)).0
 unfolding sum_of all_fit
@@ -79,7 +79,7 @@ from_refused total (p ∷ ps) l h =
     (λ m k. from_refused (total + area_of p) ps m k)
     h
 
-step_low : (b d : Bool) (x : AreaAnswer) → (given x).0 < number_of SiteFull → (given (tried b d x)).0 < number_of SiteFull
+step_low : (b d : Bool) (x : Result Area Refusal) → (given x).0 < number_of SiteFull → (given (tried b d x)).0 < number_of SiteFull
 step_low true true x rest = rest
 step_low true false x rest = omega arith
 step_low false d x rest = omega arith
@@ -91,13 +91,13 @@ parts_low total [] = omega arith
 parts_low total (p ∷ ps) = step_low (fits p) (has_room total (area_of p)) (judged_from (total + area_of p) ps) (parts_low (total + area_of p) ps)
 
 -- what the numbers leave of the answer to the sub-areas
-abbrev lastly : Bool → AreaAnswer → AreaAnswer
-lastly fine x = after_judging Refused (with_numbers fine) x
+abbrev lastly : Bool → Result Area Refusal → Result Area Refusal
+lastly fine x = after_judging Err (with_numbers fine) x
 
-never_full : (b : Bool) (x : AreaAnswer) → (given x).0 < number_of SiteFull → (given (lastly b x)).0 ≡ number_of SiteFull → ⊥
-never_full true (Granted total) l e = omega arith
-never_full false (Granted total) l e = omega arith
-never_full b (Refused why) l e = omega arith
+never_full : (b : Bool) (x : Result Area Refusal) → (given x).0 < number_of SiteFull → (given (lastly b x)).0 ≡ number_of SiteFull → ⊥
+never_full true (Ok total) l e = omega arith
+never_full false (Ok total) l e = omega arith
+never_full b (Err why) l e = omega arith
 
 pub full_above : (s : Site) → (given (judged s)).0 ≡ number_of SiteFull → most_parts < s.count
 full_above s e =
@@ -106,16 +106,16 @@ full_above s e =
     (lt_or_le most_parts s.count)
 
 -- 16 comes of the numbers alone, where the sub-areas are fine.
-unnumbered : (b : Bool) (x : AreaAnswer) → (given x).0 < number_of SiteFull → (given (lastly b x)).0 ≡ number_of NumberNotHeld
-    → (b ≡ false) × ((total : Area) × (x ≡ Granted total))
-unnumbered true (Granted total) l e = absurd (omega arith)
-unnumbered false (Granted total) l e = (refl, (total, refl))
-unnumbered b (Refused why) l e = absurd (omega arith)
+unnumbered : (b : Bool) (x : Result Area Refusal) → (given x).0 < number_of SiteFull → (given (lastly b x)).0 ≡ number_of NumberNotHeld
+    → (b ≡ false) × ((total : Area) × (x ≡ Ok total))
+unnumbered true (Ok total) l e = absurd (omega arith)
+unnumbered false (Ok total) l e = (refl, (total, refl))
+unnumbered b (Err why) l e = absurd (omega arith)
 
 pub unnumbered_only : (s : Site) → (given (judged s)).0 ≡ number_of NumberNotHeld
     → (s.count ≤ most_parts) × (all_fit (parts_of s) ≡ true) × (total_area (parts_of s) ≤ most_area) × (numbered s ≡ false)
 unnumbered_only s e =
-    ⊎_elim (λ (l : most_parts < s.count). absurd (let z : (given (judged s)).0 ≡ number_of SiteFull = ap (λ (x : AreaAnswer). (given x).0) (sym (overfull s l)) in omega arith))
+    ⊎_elim (λ (l : most_parts < s.count). absurd (let z : (given (judged s)).0 ≡ number_of SiteFull = ap (λ (x : Result Area Refusal). (given x).0) (sym (overfull s l)) in omega arith))
     (λ (l : s.count ≤ most_parts).
     let u = unnumbered (numbered s) (judged_from 0 (parts_of s)) (parts_low 0 (parts_of s)) (rw (by_parts s l) at e) in
     let f = parts_fine (parts_of s) u.1.0 u.1.1 in
@@ -127,10 +127,10 @@ pub unnumbered_there : (s : Site) → s.count ≤ most_parts → all_fit (parts_
 unnumbered_there s l f t n = rw (by_parts s l, n, fine_parts (parts_of s) f t)
 
 -- A record that is refused otherwise is refused by its sub-areas.
-by_sub_areas : (b : Bool) (x : AreaAnswer) → ((given (lastly b x)).0 ≡ granted → ⊥) → ((given (lastly b x)).0 ≡ number_of NumberNotHeld → ⊥) → lastly b x ≡ x
-by_sub_areas true (Granted total) h n = refl
-by_sub_areas false (Granted total) h n = absurd (n refl)
-by_sub_areas b (Refused why) h n = refl
+by_sub_areas : (b : Bool) (x : Result Area Refusal) → ((given (lastly b x)).0 ≡ granted → ⊥) → ((given (lastly b x)).0 ≡ number_of NumberNotHeld → ⊥) → lastly b x ≡ x
+by_sub_areas true (Ok total) h n = refl
+by_sub_areas false (Ok total) h n = absurd (n refl)
+by_sub_areas b (Err why) h n = refl
 
 pub refused_first : (s : Site) → s.count ≤ most_parts → ((given (judged s)).0 ≡ granted → ⊥) → ((given (judged s)).0 ≡ number_of NumberNotHeld → ⊥)
     → RefusedAt (parts_of s) (given (judged s)).0

@@ -1,5 +1,6 @@
 -- The promises of a removal, proved.
 -- Assumes nothing.
+use Rattle.std.specs.Prelude.{Result, Ok, Err}
 use Prim.Native.Nat.{ℕ, ◌+◌, ◌-◌, ◌≤◌, ◌<◌}
 use mathlib.Core.Bool.{Bool, true, false, not, and-eq-true_iff}
 use mathlib.Core.List.{List, [], ◌∷◌, ◌++◌}
@@ -21,9 +22,7 @@ use Rattle.refusal.specs.Refusal.{number_of, granted}
 use Rattle.units.specs.declared.Area.{Area}
 use Rattle.site.specs.declared.SubArea.{SubArea}
 use Rattle.site.specs.declared.Site.{Site}
-use Rattle.site.specs.declared.Removed.{Removed}
-use Rattle.site.specs.declared.AreaAnswer.{AreaAnswer}
-use Rattle.site.specs.declared.AreaAnswer.TheVariants.{Granted, Refused}
+use Rattle.site.specs.Removing.{Removed}
 use Rattle.site.specs.Parts.{most_parts, parts_of, numbers_of, area_of, total_area, blank}
 use Rattle.site.specs.Judging.{fits, after_judging, judged, given}
 use Rattle.site.specs.Removing.{place_of, holds, without, untouched, taken_out, removed_from, removed}
@@ -43,36 +42,36 @@ module _ (s : Site) (n : ℕ) where
   abbrev at : ℕ
   at = place_of n (numbers_of s)
 
-  pub keeps : (why : Refusal) → (removed s n).answer ≡ Refused why → removed s n ≡ untouched s why
+  pub keeps : (why : Refusal) → (removed s n).answer ≡ Err why → removed s n ≡ untouched s why
   unfolding removed removed_from
   keeps why = told (judged s)
     where
-      settle : (total : ℕ) (b : Bool) → (tried s total at b).answer ≡ Refused why → tried s total at b ≡ untouched s why
+      settle : (total : ℕ) (b : Bool) → (tried s total at b).answer ≡ Err why → tried s total at b ≡ untouched s why
       settle total true h = absurd (never_granted (sym h))
       settle total false h = λ i. record { answer = h i; site = s }
 
-      told : (x : AreaAnswer)
-          → (after_judging (untouched s) (λ total. tried s total at (holds n (numbers_of s))) x).answer ≡ Refused why
+      told : (x : Result Area Refusal)
+          → (after_judging (untouched s) (λ total. tried s total at (holds n (numbers_of s))) x).answer ≡ Err why
           → after_judging (untouched s) (λ total. tried s total at (holds n (numbers_of s))) x ≡ untouched s why
-      told (Granted total) = settle total.0 (holds n (numbers_of s))
-      told (Refused r) = λ h i. record { answer = h i; site = s }
+      told (Ok total) = settle total.0 (holds n (numbers_of s))
+      told (Err r) = λ h i. record { answer = h i; site = s }
 
   -- what a granted removal tells: its record is judged fine, the number is held, and its sub-area is taken out
-  pub from_held : (a : Area) → (removed s n).answer ≡ Granted a
-      → (total : Area) × (judged s ≡ Granted total) × (at < length (numbers_of s)) × (removed s n ≡ taken_out s total.0 at)
+  pub from_held : (a : Area) → (removed s n).answer ≡ Ok a
+      → (total : Area) × (judged s ≡ Ok total) × (at < length (numbers_of s)) × (removed s n ≡ taken_out s total.0 at)
   unfolding removed removed_from
   from_held a = told (judged s) refl
     where
-      settle : (total : ℕ) (b : Bool) → holds n (numbers_of s) ≡ b → (tried s total at b).answer ≡ Granted a
+      settle : (total : ℕ) (b : Bool) → holds n (numbers_of s) ≡ b → (tried s total at b).answer ≡ Ok a
           → (at < length (numbers_of s)) × (tried s total at b ≡ taken_out s total at)
       settle total true f h = (ltb-true at (length (numbers_of s)) f, refl)
       settle total false f h = absurd (never_granted h)
 
-      told : (x : AreaAnswer) → judged s ≡ x
-          → (after_judging (untouched s) (λ total. tried s total at (holds n (numbers_of s))) x).answer ≡ Granted a
-          → (total : Area) × (judged s ≡ Granted total) × (at < length (numbers_of s)) × (after_judging (untouched s) (λ total. tried s total at (holds n (numbers_of s))) x ≡ taken_out s total.0 at)
-      told (Granted total) j h = let r = settle total.0 (holds n (numbers_of s)) refl h in (total, j, r.0, r.1)
-      told (Refused why) j h = absurd (never_granted h)
+      told : (x : Result Area Refusal) → judged s ≡ x
+          → (after_judging (untouched s) (λ total. tried s total at (holds n (numbers_of s))) x).answer ≡ Ok a
+          → (total : Area) × (judged s ≡ Ok total) × (at < length (numbers_of s)) × (after_judging (untouched s) (λ total. tried s total at (holds n (numbers_of s))) x ≡ taken_out s total.0 at)
+      told (Ok total) j h = let r = settle total.0 (holds n (numbers_of s)) refl h in (total, j, r.0, r.1)
+      told (Err why) j h = absurd (never_granted h)
 
   -- The number stands at its place.
   pub stands : at < length (numbers_of s) → get_or (numbers_of s) at 0 ≡ n
@@ -96,7 +95,7 @@ unfolding removed_from
 let_through s total n h = rw (lt-ltb (place_of n (numbers_of s)) (length (numbers_of s)) h)
 
 -- and a refused record gives its own number.
-refused_record : (s : Site) (n : ℕ) (why : Refusal) → judged s ≡ Refused why → (removed s n).answer ≡ Refused why
+refused_record : (s : Site) (n : ℕ) (why : Refusal) → judged s ≡ Err why → (removed s n).answer ≡ Err why
 unfolding removed
 refused_record s n why e = simp e
 
@@ -173,7 +172,7 @@ module _ (s : Site) (total : Area) (t : Told s total) (n i : ℕ) (h : i < lengt
       ∙ (judged_has s total t.fine).2
 
   -- and the site without the sub-area is judged fine with it.
-  pub without_fine : judged (without s i) ≡ Granted (record { 0 = total.0 - area_of (get_or (parts_of s) i blank) })
+  pub without_fine : judged (without s i) ≡ Ok (record { 0 = total.0 - area_of (get_or (parts_of s) i blank) })
   without_fine =
       let o = taken_out_lem in
       let k = judged_has s total t.fine in
@@ -223,4 +222,4 @@ removal_refused s n = (unheld, own)
         (lt_or_le (place_of n (numbers_of s)) (length (numbers_of s)))
 
     own : ((given (judged s)).0 ≡ granted → ⊥) → given (removed s n).answer ≡ ((given (judged s)).0, 0)
-    own h = let r = given_refused (judged s) h in ap given (refused_record s n r.0 r.1) ∙ ap (λ (x : AreaAnswer). ((given x).0, 0)) (sym r.1)
+    own h = let r = given_refused (judged s) h in ap given (refused_record s n r.0 r.1) ∙ ap (λ (x : Result Area Refusal). ((given x).0, 0)) (sym r.1)

@@ -1,5 +1,7 @@
 -- The promises of runs of adds and removals, proved.
 -- Assumes nothing.
+use Rattle.std.specs.Prelude.{Result, Ok, Err}
+use Rattle.refusal.specs.declared.Refusal.{Refusal}
 use Prim.Native.Nat.{ℕ, zero, suc, ◌+◌, ◌-◌, ◌≤◌, ◌<◌}
 use mathlib.Core.Bool.{true, and-eq-true_iff}
 use mathlib.Core.List.{List, [], ◌∷◌, ◌++◌, append-nil}
@@ -17,10 +19,8 @@ use Rattle.units.specs.declared.Area.{Area}
 use Rattle.units.specs.Limits.{most_area}
 use Rattle.site.specs.declared.SubArea.{SubArea}
 use Rattle.site.specs.declared.Site.{Site}
-use Rattle.site.specs.declared.Added.{Added}
-use Rattle.site.specs.declared.Removed.{Removed}
-use Rattle.site.specs.declared.AreaAnswer.{AreaAnswer}
-use Rattle.site.specs.declared.AreaAnswer.TheVariants.{Granted, Refused}
+use Rattle.site.specs.Adding.{Added}
+use Rattle.site.specs.Removing.{Removed}
 use Rattle.site.specs.Parts.{most_parts, parts_of, numbers_of, area_of, total_area, blank, empty_site}
 use Rattle.site.specs.Judging.{fits, after_judging, judged, given}
 use Rattle.site.specs.Adding.{spent_at, stored, added}
@@ -59,8 +59,8 @@ memory_without s total t i h =
 add_goes : (s : Site) (p : SubArea) → Sound s → Went s (add p) (added s p).site
 add_goes s p sound = told (added s p).answer refl
   where
-    told : (x : AreaAnswer) → (added s p).answer ≡ x → Went s (add p) (added s p).site
-    told (Granted a) e =
+    told : (x : Result Area Refusal) → (added s p).answer ≡ x → Went s (add p) (added s p).site
+    told (Ok a) e =
         let f = from_fine s p a e in
         let g = f.2 in
         let m = sound.1.memory in
@@ -71,15 +71,15 @@ add_goes s p sound = told (added s p).answer refl
           sound = (record { 0 = f.0.0 + area_of p }, record { memory = memory_stored s p m; fine = stored_fine s p f.0 m f.1 g.fit g.place g.within });
           area = omega arith;
         })
-    told (Refused why) e =
+    told (Err why) e =
         let none : adds s (add p) ≡ 0 = ap (after_judging (λ why. 0) (λ total. area_of p)) e in
         rw (keeps s p why e) (record { sound = sound; area = omega arith })
 
 remove_goes : (s : Site) (n : ℕ) → Sound s → Went s (remove n) (removed s n).site
 remove_goes s n sound = told (removed s n).answer refl
   where
-    told : (x : AreaAnswer) → (removed s n).answer ≡ x → Went s (remove n) (removed s n).site
-    told (Granted a) e =
+    told : (x : Result Area Refusal) → (removed s n).answer ≡ x → Went s (remove n) (removed s n).site
+    told (Ok a) e =
         let f = removal.from_held s n a e in
         let t : Told s f.0 = record { memory = sound.1.memory; fine = f.1 } in
         let h = f.2 in
@@ -94,7 +94,7 @@ remove_goes s n sound = told (removed s n).answer refl
           sound = (_, record { memory = memory_without s f.0 t i (omega arith); fine = removal.without_fine s f.0 t n i h (removal.stands s n h) });
           area = omega arith;
         })
-    told (Refused why) e =
+    told (Err why) e =
         let none : takes s (remove n) ≡ 0 = ap (after_judging (λ why. 0) (λ total. area_of (get_or (parts_of s) (place_of n (numbers_of s)) blank))) e in
         rw (removal.keeps s n why e) (record { sound = sound; area = omega arith })
 
@@ -123,7 +123,7 @@ starts_sound : (s : Site) → Startable s → Sound s
 starts_sound s h = let g = given_some (judged s) h.fine in (g.0, record { memory = h.memory; fine = g.1 })
 
 pub empty_starts : Startable empty_site
-empty_starts = record { memory = empty_told.memory; fine = ap (λ (x : AreaAnswer). (given x).0) empty_judged }
+empty_starts = record { memory = empty_told.memory; fine = ap (λ (x : Result Area Refusal). (given x).0) empty_judged }
 
 pub run_total : RunTotal
 unfolding sum_of
@@ -138,15 +138,15 @@ run_total = (empty_starts, refl, whole)
         (ap given sound.1.fine ∙ ap (λ (n : ℕ). (granted, n)) (sym total), run_area s steps (starts_sound s h))
 
 pub run_fine : (s : Site) (steps : List Step) → Startable s → (given (judged (ran s steps))).0 ≡ granted
-run_fine s steps h = ap (λ (x : AreaAnswer). (given x).0) (run_sound s steps (starts_sound s h)).1.fine
+run_fine s steps h = ap (λ (x : Result Area Refusal). (given x).0) (run_sound s steps (starts_sound s h)).1.fine
 
 -- A removal keeps the counter.
 counter_kept : (s : Site) (n : ℕ) → (removed s n).site.counter ≡ s.counter
 counter_kept s n = told (removed s n).answer refl
   where
-    told : (x : AreaAnswer) → (removed s n).answer ≡ x → (removed s n).site.counter ≡ s.counter
-    told (Granted a) e = ap (λ (r : Removed). r.site.counter) (removal.from_held s n a e).3
-    told (Refused why) e = ap (λ (r : Removed). r.site.counter) (removal.keeps s n why e)
+    told : (x : Result Area Refusal) → (removed s n).answer ≡ x → (removed s n).site.counter ≡ s.counter
+    told (Ok a) e = ap (λ (r : Removed). r.site.counter) (removal.from_held s n a e).3
+    told (Err why) e = ap (λ (r : Removed). r.site.counter) (removal.keeps s n why e)
 
 -- The numbers that are given are those from the counter on.
 numbers_rise : (s : Site) (steps : List Step) → numbers_given s steps ≡ up_from s.counter (length (numbers_given s steps))
@@ -154,11 +154,11 @@ unfolding numbers_given values_from
 numbers_rise s [] = refl
 numbers_rise s (add p ∷ steps) = told (added s p).answer refl (numbers_rise (added s p).site steps)
   where
-    told : (x : AreaAnswer) → (added s p).answer ≡ x
+    told : (x : Result Area Refusal) → (added s p).answer ≡ x
         → numbers_given (added s p).site steps ≡ up_from (added s p).site.counter (length (numbers_given (added s p).site steps))
         → gives s (add p) ++ numbers_given (added s p).site steps ≡ up_from s.counter (length (gives s (add p) ++ numbers_given (added s p).site steps))
-    told (Granted a) e = rw (stores s p a e, add-one s.counter) (λ later. ap (λ (ks : List ℕ). s.counter ∷ ks) later)
-    told (Refused why) e = rw (keeps s p why e) (λ later. later)
+    told (Ok a) e = rw (stores s p a e, add-one s.counter) (λ later. ap (λ (ks : List ℕ). s.counter ∷ ks) later)
+    told (Err why) e = rw (keeps s p why e) (λ later. later)
 numbers_rise s (remove n ∷ steps) =
     numbers_rise (removed s n).site steps
     ∙ ap (λ (k : ℕ). up_from k (length (numbers_given (removed s n).site steps))) (counter_kept s n)
@@ -180,11 +180,11 @@ unfolding ran numbers_given
 counter_rises s [] = let z : s.counter ≡ s.counter + 0 = omega arith in z
 counter_rises s (add p ∷ steps) = told (added s p).answer refl (counter_rises (added s p).site steps)
   where
-    told : (x : AreaAnswer) → (added s p).answer ≡ x
+    told : (x : Result Area Refusal) → (added s p).answer ≡ x
         → (ran (added s p).site steps).counter ≡ (added s p).site.counter + length (numbers_given (added s p).site steps)
         → (ran (added s p).site steps).counter ≡ s.counter + length (gives s (add p) ++ numbers_given (added s p).site steps)
-    told (Granted a) e = rw (stores s p a e) (λ later. let l = later in omega arith)
-    told (Refused why) e = rw (keeps s p why e) (λ later. later)
+    told (Ok a) e = rw (stores s p a e) (λ later. let l = later in omega arith)
+    told (Err why) e = rw (keeps s p why e) (λ later. later)
 counter_rises s (remove n ∷ steps) =
     counter_rises (removed s n).site steps ∙ ap (λ (k : ℕ). k + length (numbers_given (removed s n).site steps)) (counter_kept s n)
 
@@ -211,7 +211,7 @@ builds s (p ∷ ps) total t f c k l =
     (omega arith)
     (omega arith)
     in (
-      (λ i. ap (λ (x : AreaAnswer). (given x).0) (ap (λ (x : Added). x.answer) put) i ∷ answers (here i) (built_from ps))
+      (λ i. ap (λ (x : Result Area Refusal). (given x).0) (ap (λ (x : Added). x.answer) put) i ∷ answers (here i) (built_from ps))
           ∙ ap (λ (xs : List ℕ). granted ∷ xs) later.0,
       ap (λ (x : Site). parts_of (ran x (built_from ps))) here
           ∙ later.1

@@ -1,16 +1,14 @@
 -- Laws of a sum over sub-areas, and of the loop that makes it.
 -- Assumes nothing.
-use Prim.Native.Nat.{ℕ, ◌+◌, ◌≤◌, ◌<◌}
-use mathlib.Core.Path.{◌≡◌}
+use Prim.Native.Nat.{ℕ, ◌+◌, ◌*◌, ◌^◌, ◌≤◌, ◌<◌}
+use mathlib.Core.Path.{◌≡◌, sym}
 use mathlib.Core.List.{List}
-use mir.Syntax.{w64}
-use mir.Val.{Fits}
-use native.Mathlib.Nat.{lt_of_le_of_lt}
+use native.Mathlib.Nat.{mul-le-mul_left}
 use native.Mathlib.Omega.{arith}
-use lib.Dec.{lit<}
 use lib.ListN.{drop, get_or}
 use Rattle.laws.specs.Sum.{sum_of}
-use Rattle.laws.proofs.Sum.{sum_mono}
+use Rattle.laws.proofs.Sum.{sum_mono, sum_scaled, sum_is}
+use Rattle.std.specs.List.{sum_by}
 use Rattle.units.specs.Limits.{most_area}
 use Rattle.site.specs.declared.Cover.{Cover}
 use Rattle.site.specs.declared.Cover.TheVariants.{Imp, Per}
@@ -27,6 +25,27 @@ under_le Per area = omega arith
 -- The impervious area is a part of the total area.
 pub impervious_le : (ps : List SubArea) → impervious_area ps ≤ total_area ps
 impervious_le = sum_mono impervious_of area_of (λ p. under_le p.cover (area_of p))
+
+-- The sum of numbers of the sub-areas of a record that is judged fine, each at most a multiple of its area, is within that multiple of the
+-- largest area.
+module _ (amount : SubArea → ℕ) (k : ℕ) (s : Site) (f : Fine s) (h : (p : SubArea) → amount p ≤ k * area_of p) where
+  pub sum_fits : sum_by amount (parts_of s) ≤ k * most_area
+  sum_fits =
+      let e = sum_is amount (parts_of s) in
+      let l = sum_scaled k amount area_of h (parts_of s) in
+      let t = f.total in
+      omega (arith, mul-le-mul_left k t)
+
+-- The impervious area of a record that is judged fine fits, being a part of the total area.
+pub impervious_fits : (s : Site) → Fine s → sum_by impervious_of (parts_of s) < 2 ^ 64
+impervious_fits s f =
+    let e = sum_is impervious_of (parts_of s) in
+    let l = impervious_le (parts_of s) in
+    let t = f.total in
+    omega arith
+
+pub impervious_summed : (s : Site) → sum_by impervious_of (parts_of s) ≡ impervious_area (parts_of s)
+impervious_summed s = sym (sum_is impervious_of (parts_of s))
 
 -- The loop of a sum: what is gathered before place i, with what is left, is the whole sum.
 pub record Summed (amount : SubArea → ℕ) (s : Site) (i sum : ℕ) : Type 0 where
@@ -58,12 +77,3 @@ module _ (amount : SubArea → ℕ) (s : Site) where
   sum_ends i sum r h =
       let e : sum + 0 ≡ sum_of amount (parts_of s) = rw (none_left s i r.whole h) at r.rest in
       omega arith
-
--- The impervious area of a record that is judged fine fits at every turn, being a part of the total area.
-pub impervious_fits : (s : Site) (i sum v : ℕ) → Fine s → Summed impervious_of s i sum → i < s.count → v ≡ impervious_of (get_or s.parts i blank)
-    → Fits w64 (sum + v)
-impervious_fits s i sum v f r h e =
-    let w = sum_within impervious_of s i sum v r h e in
-    let l = impervious_le (parts_of s) in
-    let m : sum + v ≤ most_area = omega (arith, f.total) in
-    record { fits = lt_of_le_of_lt m (lit< tt) }

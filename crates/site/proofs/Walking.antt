@@ -1,5 +1,6 @@
 -- Laws of the walk that judges a record: each sub-area is tried on those before it, and then the numbers.
 -- Assumes nothing.
+use Rattle.std.specs.Prelude.{Result, Ok, Err}
 use Prim.Native.Nat.{ℕ, ◌+◌, ◌≤◌, ◌<◌}
 use mathlib.Core.Bool.{Bool, true, false, not}
 use mathlib.Core.List.{List, [], ◌∷◌}
@@ -14,8 +15,6 @@ use Rattle.refusal.specs.declared.Refusal.TheVariants.{UnfitSubArea, TotalAreaPa
 use Rattle.units.specs.declared.Area.{Area}
 use Rattle.site.specs.declared.SubArea.{SubArea}
 use Rattle.site.specs.declared.Site.{Site}
-use Rattle.site.specs.declared.AreaAnswer.{AreaAnswer}
-use Rattle.site.specs.declared.AreaAnswer.TheVariants.{Granted, Refused}
 use Rattle.site.specs.Parts.{parts_of, numbers_of, area_of, blank, most_parts}
 use Rattle.site.specs.Judging.{fits, has_room, judged_from, after_judging, numbered, with_numbers, judged}
 use Rattle.site.proofs.Parts.{Whole, part_at, none_left}
@@ -28,7 +27,7 @@ pub record Running (s : Site) (i total : ℕ) : Type 0 where
   pub rest : judged_from total (drop i (parts_of s)) ≡ judged_from 0 (parts_of s)
 
 -- A count above 32 is refused.
-pub overfull : (s : Site) → most_parts < s.count → Refused SiteFull ≡ judged s
+pub overfull : (s : Site) → most_parts < s.count → Err SiteFull ≡ judged s
 unfolding judged
 overfull s h = simp (lt-leb _ _ h)
 
@@ -37,35 +36,35 @@ starts s w n = record { whole = w; numbers = n; rest = refl }
 
 -- A sub-area is tried, and those behind it on the new total.
 pub one_by_one : (total : ℕ) (p : SubArea) (ps : List SubArea)
-    → judged_from total (p ∷ ps) ≡ after_judging Refused (λ more. judged_from more ps) (judged_from total (p ∷ []))
+    → judged_from total (p ∷ ps) ≡ after_judging Err (λ more. judged_from more ps) (judged_from total (p ∷ []))
 unfolding judged_from
 one_by_one total p ps = told (fits p) (has_room total (area_of p))
   where
     told : (b d : Bool)
-        → in_turn Refused (judged_from (total + area_of p) ps) ((b, UnfitSubArea) ∷ (d, TotalAreaPassed) ∷ [])
-        ≡ after_judging Refused (λ more. judged_from more ps)
-        (in_turn Refused (Granted (record { 0 = total + area_of p })) ((b, UnfitSubArea) ∷ (d, TotalAreaPassed) ∷ []))
+        → in_turn Err (judged_from (total + area_of p) ps) ((b, UnfitSubArea) ∷ (d, TotalAreaPassed) ∷ [])
+        ≡ after_judging Err (λ more. judged_from more ps)
+        (in_turn Err (Ok (record { 0 = total + area_of p })) ((b, UnfitSubArea) ∷ (d, TotalAreaPassed) ∷ []))
     told true true = refl
     told true false = refl
     told false d = refl
 
-module _ (s : Site) (i total : ℕ) (r : Running s i total) (h : i < s.count) {x : AreaAnswer}
+module _ (s : Site) (i total : ℕ) (r : Running s i total) (h : i < s.count) {x : Result Area Refusal}
     (e : x ≡ judged_from total (get_or s.parts i blank ∷ [])) where
   -- the judging of what is left, by the answer to the sub-area at place i
-  turn : after_judging Refused (λ more. judged_from more (drop (i + 1) (parts_of s))) x ≡ judged_from 0 (parts_of s)
+  turn : after_judging Err (λ more. judged_from more (drop (i + 1) (parts_of s))) x ≡ judged_from 0 (parts_of s)
   turn =
-      ap (after_judging Refused (λ more. judged_from more (drop (i + 1) (parts_of s)))) e
+      ap (after_judging Err (λ more. judged_from more (drop (i + 1) (parts_of s)))) e
       ∙ sym (one_by_one total (get_or s.parts i blank) (drop (i + 1) (parts_of s)))
       ∙ ap (judged_from total) (sym (part_at s i r.whole h))
       ∙ r.rest
 
   -- What is granted is the next total area, and what is refused the record's refusal.
-  pub passes : {a : Area} → x ≡ Granted a → Running s (i + 1) a.0
+  pub passes : {a : Area} → x ≡ Ok a → Running s (i + 1) a.0
   passes f = record { whole = r.whole; numbers = r.numbers; rest = rw f at turn }
 
-  pub refuses : {why : Refusal} → x ≡ Refused why → Refused why ≡ judged s
+  pub refuses : {why : Refusal} → x ≡ Err why → Err why ≡ judged s
   refuses f =
-      ap (after_judging Refused (with_numbers (numbered s))) (rw f at turn) ∙ sym (by_parts s r.whole.count)
+      ap (after_judging Err (with_numbers (numbered s))) (rw f at turn) ∙ sym (by_parts s r.whole.count)
 
 -- There are as many numbers as sub-areas.
 module _ (s : Site) (i total : ℕ) (r : Running s i total) where
@@ -77,15 +76,15 @@ module _ (s : Site) (i total : ℕ) (r : Running s i total) where
 
 -- Where no sub-area is left, the numbers decide.
 module _ (s : Site) (i : ℕ) (total : Area) (r : Running s i total.0) (h : s.count ≤ i) {b : Bool} (e : b ≡ numbered s) where
-  all_tried : Granted total ≡ judged_from 0 (parts_of s)
+  all_tried : Ok total ≡ judged_from 0 (parts_of s)
   unfolding judged_from
   all_tried = rw (none_left s i r.whole h) at r.rest
 
   by_numbers : with_numbers (numbered s) total.0 ≡ judged s
-  by_numbers = ap (after_judging Refused (with_numbers (numbered s))) all_tried ∙ sym (by_parts s r.whole.count)
+  by_numbers = ap (after_judging Err (with_numbers (numbered s))) all_tried ∙ sym (by_parts s r.whole.count)
 
-  pub ends_fine : not b ≡ false → Granted total ≡ judged s
+  pub ends_fine : not b ≡ false → Ok total ≡ judged s
   ends_fine f = rw (sym e ∙ not-false _ f) at by_numbers
 
-  pub ends_unnumbered : not b ≡ true → Refused NumberNotHeld ≡ judged s
+  pub ends_unnumbered : not b ≡ true → Err NumberNotHeld ≡ judged s
   ends_unnumbered f = rw (sym e ∙ not-true _ f) at by_numbers

@@ -1,7 +1,8 @@
 -- Rules, "Site and load", "Numbers of sub-areas" and "The numbers given back": a site record handed to any call is judged before all
 -- else.
 -- Assumes nothing.
-use Rattle.std.specs.Prelude.{ℕ, ◌+◌, Bool, ◌&&◌, List, [], ◌∷◌, ltb, leb}
+use Rattle.units.specs.declared.Area.{Area}
+use Rattle.std.specs.Prelude.{ℕ, ◌+◌, Bool, ◌&&◌, List, [], ◌∷◌, ltb, leb, Result, Ok, Err}
 use Rattle.laws.specs.Turn.{in_turn}
 use Rattle.refusal.specs.declared.Refusal.{Refusal}
 use Rattle.refusal.specs.declared.Refusal.TheVariants.{UnfitSubArea, TotalAreaPassed, SiteFull, NumberNotHeld}
@@ -9,8 +10,6 @@ use Rattle.refusal.specs.Refusal.{number_of, granted}
 use Rattle.units.specs.Limits.{most_area}
 use Rattle.site.specs.declared.SubArea.{SubArea}
 use Rattle.site.specs.declared.Site.{Site}
-use Rattle.site.specs.declared.AreaAnswer.{AreaAnswer}
-use Rattle.site.specs.declared.AreaAnswer.TheVariants.{Granted, Refused}
 use Rattle.site.specs.Soils.{suits}
 use Rattle.site.specs.Parts.{most_parts, parts_of, numbers_of, area_of, impervious_area}
 
@@ -23,17 +22,17 @@ abbrev pub has_room : ℕ → ℕ → Bool
 has_room total area = leb (total + area) most_area
 
 -- the sub-areas in turn, 2 before 3 at each, the total running; where all pass, the total area
-unfoldable pub judged_from : ℕ → List SubArea → AreaAnswer
-judged_from total [] = Granted (record { 0 = total })
+unfoldable pub judged_from : ℕ → List SubArea → Result Area Refusal
+judged_from total [] = Ok (record { 0 = total })
 judged_from total (p ∷ ps) =
-    in_turn Refused (judged_from (total + area_of p) ps)
+    in_turn Err (judged_from (total + area_of p) ps)
     ((fits p, UnfitSubArea) ∷ (has_room total (area_of p), TotalAreaPassed) ∷ [])
 
 -- The record's refusal is the call's; a record that is judged fine goes on, with its total area.
 module _ {A : Type 0} where
-  abbrev pub after_judging : (Refusal → A) → (ℕ → A) → AreaAnswer → A
-  after_judging refused onward (Granted total) = onward total.0
-  after_judging refused onward (Refused why) = refused why
+  abbrev pub after_judging : (Refusal → A) → (ℕ → A) → Result Area Refusal → A
+  after_judging refused onward (Ok total) = onward total.0
+  after_judging refused onward (Err why) = refused why
 
 -- Numbers that rise strictly from above `low` and stay below the counter; where there are none, `low` is below it.
 unfoldable pub rises_to : ℕ → ℕ → List ℕ → Bool
@@ -45,20 +44,20 @@ abbrev pub numbered : Site → Bool
 numbered s = rises_to s.counter 0 (numbers_of s)
 
 -- a total area that is granted where the numbers are fine, and 16 where they are not
-abbrev pub with_numbers : Bool → ℕ → AreaAnswer
-with_numbers fine total = in_turn Refused (Granted (record { 0 = total })) ((fine, NumberNotHeld) ∷ [])
+abbrev pub with_numbers : Bool → ℕ → Result Area Refusal
+with_numbers fine total = in_turn Err (Ok (record { 0 = total })) ((fine, NumberNotHeld) ∷ [])
 
 -- a count above 32 answers 14, then its sub-areas are tried, then its numbers
-unfoldable pub judged : Site → AreaAnswer
+unfoldable pub judged : Site → Result Area Refusal
 judged s =
-    in_turn Refused (after_judging Refused (with_numbers (numbered s)) (judged_from 0 (parts_of s)))
+    in_turn Err (after_judging Err (with_numbers (numbered s)) (judged_from 0 (parts_of s)))
     ((leb s.count most_parts, SiteFull) ∷ [])
 
 -- the impervious area of a site
-unfoldable pub impervious : Site → AreaAnswer
-impervious s = after_judging Refused (λ total. Granted (record { 0 = impervious_area (parts_of s) })) (judged s)
+unfoldable pub impervious : Site → Result Area Refusal
+impervious s = after_judging Err (λ total. Ok (record { 0 = impervious_area (parts_of s) })) (judged s)
 
 -- the rules' number and value: a refusal's value is 0
-abbrev pub given : AreaAnswer → ℕ × ℕ
-given (Granted area) = (granted, area.0)
-given (Refused why) = (number_of why, 0)
+abbrev pub given : Result Area Refusal → ℕ × ℕ
+given (Ok area) = (granted, area.0)
+given (Err why) = (number_of why, 0)

@@ -1,4 +1,5 @@
 pub mod Soils
+pub mod Cases
 pub mod Parts
 pub mod Judging
 pub mod Adding

@@ -1,13 +1,12 @@
 -- Rules, "Site and load" and "Numbers of sub-areas": what is promised of a site record, as statements that proofs/Promises.antt and
 -- proofs/Alike.antt, Removals.antt and Runs.antt prove.
 -- Assumes nothing.
-use Rattle.std.specs.Prelude.{ℕ, ◌+◌, ◌≤◌, ◌<◌, ◌≡◌, Bool, true, false, ◌&&◌, List, [], ◌∷◌, ◌++◌, ◌↔◌, ◌⊎◌, length, get_or, replicate}
+use Rattle.std.specs.Prelude.{ℕ, ◌+◌, ◌≤◌, ◌<◌, ◌≡◌, Bool, true, false, ◌&&◌, List, [], ◌∷◌, ◌++◌, ◌↔◌, ◌⊎◌, length, get_or, replicate, Err}
 use Rattle.refusal.specs.declared.Refusal.TheVariants.{UnfitSubArea, TotalAreaPassed, SiteFull, NumberNotHeld, NumbersSpent}
 use Rattle.refusal.specs.Refusal.{number_of, granted}
 use Rattle.units.specs.Limits.{most_area}
 use Rattle.site.specs.declared.SubArea.{SubArea}
 use Rattle.site.specs.declared.Site.{Site}
-use Rattle.site.specs.declared.AreaAnswer.TheVariants.{Refused}
 use Rattle.site.specs.Parts.{most_parts, parts_of, numbers_of, area_of, total_area, blank, empty_site}
 use Rattle.site.specs.Judging.{fits, judged_from, after_judging, numbered, judged, impervious, given}
 use Rattle.site.specs.Adding.{spent_at, add_answer, added_to, added, given_back}
@@ -74,7 +73,7 @@ FirstRefused =
 abbrev pub TriedInTurn : Type 0
 TriedInTurn =
     (total : ℕ) (p : SubArea) (ps : List SubArea)
-    → judged_from total (p ∷ ps) ≡ after_judging Refused (λ more. judged_from more ps) (judged_from total (p ∷ []))
+    → judged_from total (p ∷ ps) ≡ after_judging Err (λ more. judged_from more ps) (judged_from total (p ∷ []))
 
 -- every record in memory has its 32 places, and as many for numbers
 pub record InMemory (s : Site) : Type 0 where

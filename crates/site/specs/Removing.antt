@@ -1,14 +1,13 @@
 -- Rules, "Numbers of sub-areas": a removal by number frees the room of its sub-area, and the others close up in order.
 -- Assumes nothing.
-use Rattle.std.specs.Prelude.{ℕ, ◌-◌, Bool, not, List, [], ◌∷◌, ltb, eqb, length, get_or}
+use Rattle.std.specs.Prelude.{ℕ, ◌-◌, Bool, not, List, [], ◌∷◌, ltb, eqb, length, get_or, Result, Ok, Err}
 use Rattle.laws.specs.First.{first}
 use Rattle.laws.specs.Turn.{in_turn}
 use Rattle.laws.specs.ClosedUp.{closed_up}
 use Rattle.refusal.specs.declared.Refusal.{Refusal}
 use Rattle.refusal.specs.declared.Refusal.TheVariants.{NumberNotHeld}
+use Rattle.units.specs.declared.Area.{Area}
 use Rattle.site.specs.declared.Site.{Site}
-use Rattle.site.specs.declared.Removed.{Removed}
-use Rattle.site.specs.declared.AreaAnswer.TheVariants.{Granted, Refused}
 use Rattle.site.specs.Parts.{parts_of, numbers_of, area_of, blank}
 use Rattle.site.specs.Judging.{judged, after_judging, given}
 
@@ -31,14 +30,19 @@ without s i =
       counter = s.counter;
     }
 
+-- what a removal comes to: the new total area or the refusal, and the site that it leaves
+pub record Removed : Type 0 where
+  pub answer : Result Area Refusal
+  pub site : Site
+
 -- a refused removal hands back the site as it was, past the count too
 abbrev pub untouched : Site → Refusal → Removed
-untouched s why = record { answer = Refused why; site = s }
+untouched s why = record { answer = Err why; site = s }
 
 -- a granted one hands back the site without the sub-area, and the total area without its area
 abbrev pub taken_out : Site → ℕ → ℕ → Removed
 taken_out s total i =
-    record { answer = Granted (record { 0 = total - area_of (get_or (parts_of s) i blank) }); site = without s i }
+    record { answer = Ok (record { 0 = total - area_of (get_or (parts_of s) i blank) }); site = without s i }
 
 -- removing a number from a site of the total area that is given: 16 where the number is not held
 unfoldable pub removed_from : Site → ℕ → ℕ → Removed

@@ -2,18 +2,20 @@
 // and removing from it.
 #![tactic(auto)]
 
-ghost use Rattle.std.specs.Prelude.{ltb, ◌&&◌, [], ◌∷◌, ◌≡◌};
+ghost use Rattle.std.specs.Prelude.{[], ◌∷◌, ◌≡◌, ◌==◌, position};
+ghost use Rattle.std.proofs.Common.{rules};
+ghost use Rattle.site.specs.Cases.{land_uses, land_place, covers, cover_place, soils, soil_place};
 ghost use Rattle.site.specs.Soils.{named, suits, column_of, load_column, runoff_column};
-ghost use Rattle.site.specs.Parts.{parts_of, impervious_of, impervious_area, empty_site};
+ghost use Rattle.site.specs.Parts.{impervious_of, empty_site};
 ghost use Rattle.site.specs.Judging.{fits, has_room, judged_from, rises_to, judged, impervious};
-ghost use Rattle.site.specs.Adding.{add_answer, added_to, added};
-ghost use Rattle.site.specs.Removing.{place_of, without, removed_from, removed};
-ghost use Rattle.site.specs.Inner.{Fine, grown_by, Held, Told};
+ghost use Rattle.site.specs.Adding.{add_answer, added_to, added, placed};
+ghost use Rattle.site.specs.Removing.{removed};
+ghost use Rattle.site.specs.Inner.{grown_by};
 
 use refusal::Refusal;
-use units::{Area, Column};
+use units::{Area, Coded, Column};
 
-#[derive(Clone, Copy)]
+#[derive(Clone, Copy, Debug, PartialEq, Eq)]
 pub enum LandUse {
     Com,
     Ind,
@@ -27,13 +29,13 @@ pub enum LandUse {
 }
 
 // Impervious or pervious.
-#[derive(Clone, Copy)]
+#[derive(Clone, Copy, Debug, PartialEq, Eq)]
 pub enum Cover {
     Imp,
     Per,
 }
 
-#[derive(Clone, Copy)]
+#[derive(Clone, Copy, Debug, PartialEq, Eq)]
 pub enum Soil {
     A,
     B,
@@ -44,6 +46,72 @@ pub enum Soil {
     U,
     // `-`, under impervious cover.
     NoSoil,
+}
+
+impl Coded for LandUse {
+    ghost cases = { land_uses };
+
+    ghost place = { land_place };
+
+    ghost in_order = { Prim.search rules };
+
+    fn cases() -> &'static [LandUse] {
+        &[
+            LandUse::Com,
+            LandUse::Ind,
+            LandUse::Hdr,
+            LandUse::Mdr,
+            LandUse::Ldr,
+            LandUse::Hwy,
+            LandUse::For,
+            LandUse::Open,
+            LandUse::Ag,
+        ]
+    }
+
+    fn place(self) -> usize {
+        self as usize
+    }
+}
+
+impl Coded for Cover {
+    ghost cases = { covers };
+
+    ghost place = { cover_place };
+
+    ghost in_order = { Prim.search rules };
+
+    fn cases() -> &'static [Cover] {
+        &[Cover::Imp, Cover::Per]
+    }
+
+    fn place(self) -> usize {
+        self as usize
+    }
+}
+
+impl Coded for Soil {
+    ghost cases = { soils };
+
+    ghost place = { soil_place };
+
+    ghost in_order = { Prim.search rules };
+
+    fn cases() -> &'static [Soil] {
+        &[
+            Soil::A,
+            Soil::B,
+            Soil::C,
+            Soil::CD,
+            Soil::D,
+            Soil::U,
+            Soil::NoSoil,
+        ]
+    }
+
+    fn place(self) -> usize {
+        self as usize
+    }
 }
 
 #[derive(Clone, Copy)]
@@ -61,7 +129,8 @@ pub const MOST_PARTS: usize = 32;
 pub const SPENT_AT: u32 = 1_000_000;
 
 // The first `count` places hold the sub-areas and their numbers; no call reads past them. The counter is the number that the next
-// sub-area gets.
+// sub-area gets. The memory is fixed, so that there is no Vec; any record may be
+// handed in, a count above 32 is refused 14, and the theorem PastCountUnread speaks of both lists past the count.
 #[derive(Clone, Copy)]
 pub struct Site {
     pub parts: [SubArea; MOST_PARTS],
@@ -70,51 +139,25 @@ pub struct Site {
     pub counter: u32,
 }
 
-// An area of a site, or the refusal.
+// What a site with one sub-area more answers: its total area, and the number that the sub-area got.
 #[derive(Clone, Copy)]
-pub enum AreaAnswer {
-    Granted(Area),
-    Refused(Refusal),
-}
-
-// The site that an add hands back, with its new total area or the refusal, and the number that the sub-area got: 0 beside a refusal.
-#[derive(Clone, Copy)]
-pub struct Added {
-    pub answer: AreaAnswer,
-    pub site: Site,
+pub struct Placed {
+    pub total: Area,
     pub number: u32,
-}
-
-// The site that a removal hands back, with its new total area or the refusal.
-#[derive(Clone, Copy)]
-pub struct Removed {
-    pub answer: AreaAnswer,
-    pub site: Site,
 }
 
 // A soil other than `-`.
 fn is_named(soil: Soil) -> bool
     ensures { result ≡ named soil }
 {
-    match soil {
-        Soil::A => true,
-        Soil::B => true,
-        Soil::C => true,
-        Soil::CD => true,
-        Soil::D => true,
-        Soil::U => true,
-        Soil::NoSoil => false,
-    }
+    soil != Soil::NoSoil
 }
 
 // Pervious cover asks for a named soil, impervious cover for none.
 fn soil_suits(cover: Cover, soil: Soil) -> bool
     ensures { result ≡ suits cover soil }
 {
-    match cover {
-        Cover::Imp => !is_named(soil),
-        Cover::Per => is_named(soil),
-    }
+    is_named(soil) == (cover == Cover::Per)
 }
 
 // The column of a soil in a table that reads an unknown soil in the column that is given.
@@ -127,8 +170,7 @@ fn column(soil: Soil, unknown: Column) -> Column
         Soil::C => Column::C,
         Soil::CD => Column::CD,
         Soil::D => Column::D,
-        Soil::U => unknown,
-        Soil::NoSoil => unknown,
+        Soil::U | Soil::NoSoil => unknown,
     }
 }
 
@@ -150,291 +192,179 @@ pub fn runoff_column(soil: Soil) -> Column
 fn part_fits(part: SubArea) -> bool
     ensures { result ≡ fits part }
 {
-    let area = part.area;
-    if area.0 < 1 {
-        return false;
-    }
-    if units::MOST_AREA < area.0 {
-        return false;
-    }
-    let cover = part.cover;
-    let soil = part.soil;
-    soil_suits(cover, soil)
+    1 <= part.area.0 && part.area.0 <= units::MOST_AREA && soil_suits(part.cover, part.soil)
 }
 
 // An area added to a total is not refused 3.
 fn has_room(total: Area, area: Area) -> bool
     ensures { result ≡ has_room total.0 area.0 }
 {
-    if units::MOST_AREA < area.0 {
-        return false;
-    }
-    total.0 <= units::MOST_AREA - area.0
+    area.0 <= units::MOST_AREA && total.0 <= units::MOST_AREA - area.0
 }
 
 // A total area with an area added to it, or 3.
-fn grow(total: Area, area: Area) -> AreaAnswer
+#[tactic(auto, using(crate::proofs::Tests::grow_crowded, crate::proofs::Tests::sum_fits, crate::proofs::Tests::grow_granted))]
+fn grow(total: Area, area: Area) -> Result<Area, Refusal>
     ensures { result ≡ grown_by total.0 area.0 }
 {
     if !has_room(total, area) {
-        return AreaAnswer::Refused(Refusal::TotalAreaPassed);
+        return Err(Refusal::TotalAreaPassed);
     }
-    AreaAnswer::Granted(Area(total.0 + area.0))
-}
-
-// A site without sub-areas.
-pub fn empty() -> Site
-    ensures { result ≡ empty_site }
-{
-    let blank = SubArea {
-        land: LandUse::Com,
-        cover: Cover::Imp,
-        soil: Soil::A,
-        area: Area(0),
-    };
-    Site {
-        parts: [blank; MOST_PARTS],
-        count: 0,
-        numbers: [0; MOST_PARTS],
-        counter: 1,
-    }
+    Ok(Area(total.0 + area.0))
 }
 
 // One sub-area more, judged on the total area of those before it, by 2 and then 3: the new total, or the refusal.
-pub fn try_part(total: Area, part: SubArea) -> AreaAnswer
+#[tactic(auto, using(crate::proofs::Tests::try_unfit, crate::proofs::Tests::try_fit))]
+pub fn try_part(total: Area, part: SubArea) -> Result<Area, Refusal>
     ensures { result ≡ judged_from total.0 (part ∷ []) }
 {
     if !part_fits(part) {
-        return AreaAnswer::Refused(Refusal::UnfitSubArea);
+        return Err(Refusal::UnfitSubArea);
     }
-    let area = part.area;
-    grow(total, area)
-}
-
-// What rose so far goes on with a number that is above the last.
-fn goes_on(rises: bool, low: u32, number: u32) -> bool
-    ensures { result ≡ (rises && ltb low number) }
-{
-    if low < number {
-        return rises;
-    }
-    false
+    grow(total, part.area)
 }
 
 // The numbers of a record are not refused 16: its counter is not 0, and they rise strictly from at least 1 and stay below it. All are
 // looked at, wherever they fail: so the compiler takes several at once.
+#[tactic(auto, using(crate::proofs::Numbering::rise_on, crate::proofs::Numbering::rise_ends))]
 pub fn numbered(numbers: &[u32], counter: u32) -> bool
     ensures { result ≡ rises_to counter 0 numbers.now }
 {
     let mut rises = true;
     let mut low = 0;
-    let mut at = 0;
-    while at < numbers.len() {
-        let number = numbers[at];
-        rises = goes_on(rises, low, number);
+    for &number in numbers {
+        rises &= low < number;
         low = number;
-        at += 1;
     }
-    goes_on(rises, low, counter)
-}
-
-// A record that is judged fine answers with its total area: its count is tried, then each sub-area on those before it, then its
-// numbers.
-pub fn judge(site: Site) -> AreaAnswer
-    ensures { result ≡ judged site }
-{
-    let count = site.count;
-    if MOST_PARTS < count {
-        return AreaAnswer::Refused(Refusal::SiteFull);
-    }
-    let mut total = Area(0);
-    let mut i = 0;
-    while i < count {
-        let part = site.parts[i];
-        let answer = try_part(total, part);
-        match answer {
-            AreaAnswer::Granted(more) => {
-                total = more;
-                i += 1;
-            }
-            AreaAnswer::Refused(why) => {
-                return AreaAnswer::Refused(why);
-            }
-        }
-    }
-    let numbers = site.numbers;
-    if !numbered(&numbers[..count], site.counter) {
-        return AreaAnswer::Refused(Refusal::NumberNotHeld);
-    }
-    AreaAnswer::Granted(total)
+    rises & (low < counter)
 }
 
 // A sub-area's part in the impervious area.
 fn impervious_part(part: SubArea) -> Area
     ensures { result.0 ≡ impervious_of part }
 {
-    let area = part.area;
-    let cover = part.cover;
-    match cover {
-        Cover::Imp => area,
+    match part.cover {
+        Cover::Imp => part.area,
         Cover::Per => Area(0),
-    }
-}
-
-// The sum over the sub-areas of a record that is judged fine.
-fn impervious_sum(site: Site) -> Area
-    requires { Fine site }
-    ensures { result.0 ≡ impervious_area (parts_of site) }
-{
-    let count = site.count;
-    let mut sum = Area(0);
-    let mut place = 0;
-    while place < count {
-        let part = site.parts[place];
-        let more = impervious_part(part);
-        sum = Area(sum.0 + more.0);
-        place += 1;
-    }
-    sum
-}
-
-// The impervious area of a site.
-pub fn impervious_area(site: Site) -> AreaAnswer
-    ensures { result ≡ impervious site }
-{
-    let found = judge(site);
-    match found {
-        AreaAnswer::Granted(_) => AreaAnswer::Granted(impervious_sum(site)),
-        AreaAnswer::Refused(why) => AreaAnswer::Refused(why),
     }
 }
 
 // What an add answers, given the count, the counter and the total area of a site: the new total, or the refusal. Where it is
 // granted there is a place for the sub-area at the count, and a number for it.
-#[tactic(auto, using(crate::proofs::Adding::add_full))]
-pub fn add_answer(count: usize, counter: u32, total: Area, part: SubArea) -> AreaAnswer
+#[tactic(auto, using(crate::proofs::Adding::add_unfit, crate::proofs::Adding::add_full, crate::proofs::Adding::add_spent, crate::proofs::Adding::add_grows))]
+pub fn add_answer(count: usize, counter: u32, total: Area, part: SubArea) -> Result<Area, Refusal>
     ensures { result ≡ add_answer count counter total.0 part }
 {
     if !part_fits(part) {
-        return AreaAnswer::Refused(Refusal::UnfitSubArea);
+        return Err(Refusal::UnfitSubArea);
     }
     if MOST_PARTS <= count {
-        return AreaAnswer::Refused(Refusal::SiteFull);
+        return Err(Refusal::SiteFull);
     }
     if SPENT_AT <= counter {
-        return AreaAnswer::Refused(Refusal::NumbersSpent);
+        return Err(Refusal::NumbersSpent);
     }
-    let area = part.area;
-    grow(total, area)
+    grow(total, part.area)
 }
 
-// The add to a site that is judged fine with the total area that is given. A granted answer has the new total, and the sub-area gets
-// the counter for its number.
-fn add_to(site: Site, total: Area, part: SubArea) -> Added
-    ensures { result ≡ added_to site total.0 part }
+// The first place at which a number stands among some.
+fn place_of(number: u32, numbers: &[u32]) -> Option<usize>
+    ensures { result ≡ position (λ held. held == number) numbers.now }
 {
-    let count = site.count;
-    let number = site.counter;
-    let answer = add_answer(count, number, total, part);
-    match answer {
-        AreaAnswer::Granted(_) => {
-            let mut next = site;
-            next.parts[count] = part;
-            next.numbers[count] = number;
-            next.count = count + 1;
-            next.counter = number + 1;
-            Added {
-                answer,
-                site: next,
-                number,
-            }
-        }
-        AreaAnswer::Refused(_) => Added {
-            answer,
-            site,
-            number: 0,
-        },
-    }
+    numbers.iter().position(|held| *held == number)
 }
 
-// The record is judged, then the sub-area is added.
-pub fn add(site: Site, part: SubArea) -> Added
-    ensures { result ≡ added site part }
-{
-    let found = judge(site);
-    match found {
-        AreaAnswer::Granted(total) => add_to(site, total, part),
-        AreaAnswer::Refused(why) => Added {
-            answer: AreaAnswer::Refused(why),
-            site,
-            number: 0,
-        },
-    }
-}
-
-// The first place at which a number stands among some, or how many they are where it stands at none.
-fn place_of(number: u32, numbers: &[u32]) -> usize
-    ensures { result ≡ place_of number numbers.now }
-{
-    let mut k = 0;
-    while k < numbers.len() {
-        if numbers[k] == number {
-            return k;
-        }
-        k += 1;
-    }
-    k
-}
-
-// The site without the sub-area at a place: those behind it move up.
-fn close_up(site: Site, place: usize) -> Site
-    requires { Held site place }
-    ensures { result ≡ without site place }
-{
-    let last = site.count - 1;
-    let mut next = site;
-    let mut i = place;
-    while i < last {
-        next.parts[i] = site.parts[i + 1];
-        next.numbers[i] = site.numbers[i + 1];
-        i += 1;
-    }
-    next.count = last;
-    next
-}
-
-// The removal from a site that is judged fine with the total area that is given.
-fn remove_from(site: Site, total: Area, number: u32) -> Removed
-    requires { Told site total }
-    ensures { result ≡ removed_from site total.0 number }
-{
-    let count = site.count;
-    let numbers = site.numbers;
-    let place = place_of(number, &numbers[..count]);
-    if count <= place {
-        return Removed {
-            answer: AreaAnswer::Refused(Refusal::NumberNotHeld),
-            site,
+impl Site {
+    // A site without sub-areas.
+    pub fn empty() -> Site
+        ensures { result ≡ empty_site }
+    {
+        let blank = SubArea {
+            land: LandUse::Com,
+            cover: Cover::Imp,
+            soil: Soil::A,
+            area: Area(0),
         };
+        Site {
+            parts: [blank; MOST_PARTS],
+            count: 0,
+            numbers: [0; MOST_PARTS],
+            counter: 1,
+        }
     }
-    let part = site.parts[place];
-    let area = part.area;
-    Removed {
-        answer: AreaAnswer::Granted(Area(total.0 - area.0)),
-        site: close_up(site, place),
-    }
-}
 
-// The record is judged, then the sub-area with the number is taken out.
-pub fn remove(site: Site, number: u32) -> Removed
-    ensures { result ≡ removed site number }
-{
-    let found = judge(site);
-    match found {
-        AreaAnswer::Granted(total) => remove_from(site, total, number),
-        AreaAnswer::Refused(why) => Removed {
-            answer: AreaAnswer::Refused(why),
-            site,
-        },
+    // A record that is judged fine answers with its total area: its count is tried, then each sub-area on those before it, then its
+    // numbers.
+    #[tactic(auto, using(crate::proofs::Walking::overfull, crate::proofs::Trying::none_tried, crate::proofs::Trying::tried_next))]
+    pub fn judge(&self) -> Result<Area, Refusal>
+        ensures { result ≡ judged self.now }
+    {
+        if MOST_PARTS < self.count {
+            return Err(Refusal::SiteFull);
+        }
+        let mut total = Area(0);
+        for &part in &self.parts[..self.count] {
+            total = try_part(total, part)?;
+        }
+        if !numbered(&self.numbers[..self.count], self.counter) {
+            return Err(Refusal::NumberNotHeld);
+        }
+        Ok(total)
+    }
+
+    // The impervious area of a site.
+    #[tactic(auto, using(crate::proofs::Judging::count_known))]
+    pub fn impervious_area(&self) -> Result<Area, Refusal>
+        ensures { result ≡ impervious self.now }
+    {
+        self.judge()?;
+        Ok(Area(
+            self.parts[..self.count]
+                .iter()
+                .map(|part| impervious_part(*part).0)
+                .sum(),
+        ))
+    }
+
+    // The add to a site that is judged fine with the total area that is given. Where it is granted the sub-area gets the counter for its
+    // number; where it is refused the site stays as it was.
+    fn add_to(&mut self, total: Area, part: SubArea) -> Result<Placed, Refusal>
+        ensures site { self.new ≡ (added_to self.old total.0 part).site }
+        ensures answer { result ≡ placed (added_to self.old total.0 part) }
+    {
+        let total = add_answer(self.count, self.counter, total, part)?;
+        let number = self.counter;
+        self.parts[self.count] = part;
+        self.numbers[self.count] = number;
+        self.count += 1;
+        self.counter += 1;
+        Ok(Placed { total, number })
+    }
+
+    // The record is judged, then the sub-area is added.
+    pub fn add(&mut self, part: SubArea) -> Result<Placed, Refusal>
+        ensures site { self.new ≡ (added self.old part).site }
+        ensures answer { result ≡ placed (added self.old part) }
+    {
+        let total = self.judge()?;
+        self.add_to(total, part)
+    }
+
+    // The record is judged, then the sub-area with the number is taken out, and those behind it move up. The answer is the total area of
+    // those that are left; where it is refused the site stays as it was.
+    #[tactic(auto, using(crate::proofs::Judging::count_known))]
+    pub fn remove(&mut self, number: u32) -> Result<Area, Refusal>
+        ensures site { self.new ≡ (removed self.old number).site }
+        ensures answer { result ≡ (removed self.old number).answer }
+    {
+        let total = self.judge()?;
+        let Some(place) = place_of(number, &self.numbers[..self.count]) else {
+            return Err(Refusal::NumberNotHeld);
+        };
+        let area = self.parts[place].area;
+        self.parts.copy_within(place + 1..self.count, place);
+        self.numbers.copy_within(place + 1..self.count, place);
+        self.count -= 1;
+        Ok(Area(total.0 - area.0))
     }
 }

@@ -1,15 +1,17 @@
 -- Texts compared byte by byte.
 -- Assumes nothing.
-use Prim.Native.Nat.{ℕ, suc, ◌+◌, ◌≤◌, ◌<◌, min}
-use mathlib.Core.Path.{◌≡◌, refl, sym, ap}
-use mathlib.Core.Bool.{Bool, true, false, ◌&&◌}
+use Prim.Native.Nat.{ℕ, suc, ◌+◌}
+use mathlib.Core.Path.{◌≡◌, refl, sym, ◌∙◌, ap}
+use mathlib.Core.Bool.{Bool, true, false, cond, ◌&&◌}
 use mathlib.Core.List.{List, [], ◌∷◌}
-use native.Mathlib.Numerals.{add-one}
 use native.Mathlib.Omega.{arith}
 use lib.Dec.{eqb}
-use lib.ListN.{length, get_or, drop, length-drop, drop_of_length-le}
-use lib.Seq.{drop-cons}
+use lib.ListN.{length}
+use lib.Pointwise.{pointwise}
 use borrow.Author.Tests.{eq-eqb, ne_eqb, eqb-true}
+use Rattle.std.specs.List.{zip, prefix_len, take_while}
+use Rattle.std.proofs.lemmas.List.Folds.{length-prefix_len}
+use Rattle.laws.proofs.Order.{never_both}
 use Rattle.text.specs.Words.{same_of, agreed_of}
 
 -- texts of other lengths differ
@@ -23,37 +25,6 @@ longer_differs (x ∷ s) (y ∷ t) ne = both (eqb x y) (longer_differs s t (λ e
     both : (b : Bool) → false ≡ same_of s t → false ≡ b && same_of s t
     both true h = h
     both false h = refl
-
--- two texts of one length have the same first i bytes
-pub record Alike (s t : List ℕ) (i : ℕ) : Type 0 where
-  pub within : i ≤ length s
-  pub long : length s ≡ length t
-  pub rest : same_of (drop i s) (drop i t) ≡ same_of s t
-
-module _ {s t : List ℕ} where
-  pub alike_none : length s ≡ length t → Alike s t 0
-  alike_none e = record { within = omega arith; long = e; rest = refl }
-
-  pub alike_not : {i : ℕ} → Alike s t i → i < length s → (get_or s i 0 ≡ get_or t i 0 → ⊥) → false ≡ same_of s t
-  unfolding same_of
-  alike_not {i} a h ne =
-      simp (drop-cons s i 0 h, drop-cons t i 0 (let e = a.long in omega arith), ne_eqb (get_or s i 0) (get_or t i 0) ne) at a.rest
-
-  pub alike_next : {i : ℕ} → Alike s t i → i < length s → get_or s i 0 ≡ get_or t i 0 → Alike s t (i + 1)
-  unfolding same_of
-  alike_next {i} a h e =
-      record {
-        within = omega arith;
-        long = a.long;
-        rest =
-            rw add-one
-            (simp (drop-cons s i 0 h, drop-cons t i 0 (let l = a.long in omega arith), eq-eqb (get_or s i 0) (get_or t i 0) e) at a.rest);
-      }
-
-  pub alike_all : {i : ℕ} → Alike s t i → length s ≤ i → true ≡ same_of s t
-  unfolding same_of
-  alike_all {i} a h =
-      rw (drop_of_length-le s h, drop_of_length-le t {i = i} (let l = a.long in omega arith)) at a.rest
 
 -- Texts that are found the same are equal.
 pub same_so_equal : (s t : List ℕ) → same_of s t ≡ true → s ≡ t
@@ -76,46 +47,35 @@ unfolding same_of
 same_itself [] = refl
 same_itself (x ∷ s) = rw (eq-eqb x x refl) (same_itself s)
 
--- what a text has in common with another that is empty
-agreed_nothing : (s t : List ℕ) → min (length s) (length t) ≤ 0 → length (agreed_of s t) ≡ 0
+-- the order of two bytes makes no difference to their test
+pub eqb_turned : (x y : ℕ) → eqb x y ≡ eqb y x
+eqb_turned x y = at (eqb x y) refl
+  where
+    at : (b : Bool) → eqb x y ≡ b → b ≡ eqb y x
+    at true e = sym (eq-eqb y x (sym (eqb-true x y e)))
+    at false e =
+        sym (ne_eqb y x (λ p.
+        let g = eq-eqb x y (sym p) in
+        never_both refl (sym g ∙ e)))
+
+-- the library's test of two texts, and ours
+pub pointwise_same : (s t : List ℕ) → pointwise eqb t s ≡ same_of s t
+unfolding same_of
+pointwise_same [] [] = refl
+pointwise_same [] (y ∷ t) = refl
+pointwise_same (x ∷ s) [] = refl
+pointwise_same (x ∷ s) (y ∷ t) = rw (eqb_turned y x, pointwise_same s t)
+
+-- what two texts have in common is as long as the pairs of bytes that are the same from the start on
+agreed_pairs : (s t : List ℕ) → length (agreed_of s t) ≡ prefix_len (λ (p : ℕ × ℕ). eqb p.0 p.1) (zip s t)
 unfolding agreed_of
-agreed_nothing [] t h = refl
-agreed_nothing (x ∷ s) [] h = refl
-agreed_nothing (x ∷ s) (y ∷ t) h = absurd (omega arith)
+agreed_pairs [] t = refl
+agreed_pairs (x ∷ s) [] = refl
+agreed_pairs (x ∷ s) (y ∷ t) = at (eqb x y) (agreed_pairs s t)
+  where
+    at : (b : Bool) → length (agreed_of s t) ≡ prefix_len (λ (p : ℕ × ℕ). eqb p.0 p.1) (zip s t) → length (cond b (x ∷ agreed_of s t) []) ≡ cond b (1 + prefix_len (λ (p : ℕ × ℕ). eqb p.0 p.1) (zip s t)) 0
+    at true h = omega arith
+    at false h = refl
 
--- two texts, of which the shorter has so many bytes, have the same first i, and what they have in common goes on behind these
-pub record Agreed (s t : List ℕ) (both i : ℕ) : Type 0 where
-  pub shorter : both ≡ min (length s) (length t)
-  pub within : i ≤ both
-  pub rest : i + length (agreed_of (drop i s) (drop i t)) ≡ length (agreed_of s t)
-
-module _ {s t : List ℕ} {both : ℕ} where
-  pub agreed_none : both ≡ min (length s) (length t) → Agreed s t both 0
-  agreed_none e = record { shorter = e; within = omega arith; rest = omega arith }
-
-  module _ {i : ℕ} (a : Agreed s t both i) where
-    in_both : i < both → (i < length s) × (i < length t)
-    in_both h = let e = a.shorter in (omega arith, omega arith)
-
-    pub agreed_not : i < both → (get_or t i 0 ≡ get_or s i 0 → ⊥) → i ≡ length (agreed_of s t)
-    unfolding agreed_of
-    agreed_not h ne =
-        let b = in_both h in
-        let r = simp (drop-cons s i 0 b.0, drop-cons t i 0 b.1, ne_eqb (get_or s i 0) (get_or t i 0) (λ e. ne (sym e))) at a.rest in
-        omega arith
-
-    pub agreed_next : i < both → get_or t i 0 ≡ get_or s i 0 → Agreed s t both (i + 1)
-    unfolding agreed_of
-    agreed_next h e =
-        let b = in_both h in
-        let r = simp (drop-cons s i 0 b.0, drop-cons t i 0 b.1, eq-eqb (get_or s i 0) (get_or t i 0) (sym e)) at a.rest in
-        record { shorter = a.shorter; within = omega arith; rest = rw add-one (omega arith) }
-
-    pub agreed_all : both ≤ i → i ≡ length (agreed_of s t)
-    agreed_all h =
-        let e = a.shorter in
-        let r = a.rest in
-        let l = length-drop i s in
-        let m = length-drop i t in
-        let none = agreed_nothing (drop i s) (drop i t) (omega arith) in
-        omega arith
+pub agreed_taken : (s t : List ℕ) {n : ℕ} → n ≡ length (take_while (λ (p : ℕ × ℕ). eqb p.0 p.1) (zip s t)) → n ≡ length (agreed_of s t)
+agreed_taken s t e = e ∙ length-prefix_len (λ (p : ℕ × ℕ). eqb p.0 p.1) (zip s t) ∙ sym (agreed_pairs s t)

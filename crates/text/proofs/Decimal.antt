@@ -1,5 +1,6 @@
 -- A number's own digits: reading them gives the number back, and a text that reads as a number is its digits.
 -- Assumes nothing.
+use Rattle.std.specs.Prelude.{Some, None}
 use Prim.Native.Nat.{ℕ, zero, suc, ◌+◌, ◌-◌, ◌*◌, ◌/◌, ◌%◌, ◌^◌, ◌≤◌, ◌<◌}
 use mathlib.Core.Path.{◌≡◌, refl, sym, ◌∙◌, ap}
 use mathlib.Core.Bool.{Bool, true, false, cond, ◌&&◌, not}
@@ -12,7 +13,6 @@ use lib.ListN.{length, get_or, length-append, get_or-append}
 use borrow.Author.Tests.{le-leb, leb-true, lt-ltb, le-ltb, ltb-true, ne_eqb, not-true}
 use Rattle.laws.proofs.And.{and_left, and_right, and_false}
 use Rattle.laws.proofs.Order.{lt_or_le, never_both}
-use Rattle.text.specs.declared.Numeral.TheVariants.{Is, Malformed}
 use Rattle.text.specs.Numbers.{most_digits, digit_zero, digit_nine, digits_from, leading_zero, numeral_of, decimal_from, decimal_of}
 use Rattle.text.specs.Promises.{WrittenReadsBack}
 
@@ -132,13 +132,13 @@ digit_more v d h l =
     last_digit (v * 10 + d) (omega arith) ∙ rw (tenth, rest)
 
 -- Bytes that make a number are digits, each of which is read in turn.
-pub first_digit : (x : ℕ) (s : List ℕ) (v : ℕ) {n : ℕ} → digits_from (x ∷ s) v ≡ Is n
-    → (digit_zero ≤ x) × (x ≤ digit_nine) × (digits_from s (v * 10 + (x - digit_zero)) ≡ Is n)
+pub first_digit : (x : ℕ) (s : List ℕ) (v : ℕ) {n : ℕ} → digits_from (x ∷ s) v ≡ Some n
+    → (digit_zero ≤ x) × (x ≤ digit_nine) × (digits_from s (v * 10 + (x - digit_zero)) ≡ Some n)
 unfolding digits_from
 first_digit x s v {n} e = at (leb digit_zero x && leb x digit_nine) refl e
   where
-    at : (d : Bool) → (leb digit_zero x && leb x digit_nine) ≡ d → cond d (digits_from s (v * 10 + (x - digit_zero))) Malformed ≡ Is n
-        → (digit_zero ≤ x) × (x ≤ digit_nine) × (digits_from s (v * 10 + (x - digit_zero)) ≡ Is n)
+    at : (d : Bool) → (leb digit_zero x && leb x digit_nine) ≡ d → cond d (digits_from s (v * 10 + (x - digit_zero))) None ≡ Some n
+        → (digit_zero ≤ x) × (x ≤ digit_nine) × (digits_from s (v * 10 + (x - digit_zero)) ≡ Some n)
     at true d f = (
       leb-true digit_zero x (and_left (leb digit_zero x) (leb x digit_nine) d),
       leb-true x digit_nine (and_right (leb digit_zero x) (leb x digit_nine) d),
@@ -147,7 +147,7 @@ first_digit x s v {n} e = at (leb digit_zero x && leb x digit_nine) refl e
     at false d f = let z : ◌≡◌ {A = ℕ} 0 1 = cc in absurd (omega arith)
 
 -- behind a number that is not 0 they are the last digits of the number that they make with it, which is as small as they are few
-digits_behind : (s : List ℕ) (v : ℕ) {n : ℕ} → 1 ≤ v → digits_from s v ≡ Is n → decimal_of n ≡ decimal_of v ++ s
+digits_behind : (s : List ℕ) (v : ℕ) {n : ℕ} → 1 ≤ v → digits_from s v ≡ Some n → decimal_of n ≡ decimal_of v ++ s
 unfolding digits_from
 digits_behind [] v {n} h e = let same : v ≡ n = cc in sym (append-nil (decimal_of v) ∙ ap decimal_of same)
 digits_behind (x ∷ s) v {n} h e =
@@ -160,7 +160,7 @@ digits_behind (x ∷ s) v {n} h e =
     ∙ append_assoc (decimal_of v) ((digit_zero + (x - digit_zero)) ∷ []) s
     ∙ ap (λ (y : ℕ). decimal_of v ++ (y ∷ s)) byte
 
-digits_below : (s : List ℕ) (v i : ℕ) {n : ℕ} → v < 10 ^ i → digits_from s v ≡ Is n → n < 10 ^ (i + length s)
+digits_below : (s : List ℕ) (v i : ℕ) {n : ℕ} → v < 10 ^ i → digits_from s v ≡ Some n → n < 10 ^ (i + length s)
 unfolding digits_from
 digits_below [] v i {n} h e = let same : v ≡ n = cc in rw (add-zero i, ← same) h
 digits_below (x ∷ s) v i h e =
@@ -170,7 +170,7 @@ digits_below (x ∷ s) v i h e =
     rw long at (digits_below s (v * 10 + (x - digit_zero)) (suc i) (rw (pow-suc 10 i) (omega arith)) f.2)
 
 -- digits without a leading zero are those of the number that they make
-all_digits : (s : List ℕ) {n : ℕ} → 1 ≤ length s → leading_zero s ≡ false → digits_from s 0 ≡ Is n → decimal_of n ≡ s
+all_digits : (s : List ℕ) {n : ℕ} → 1 ≤ length s → leading_zero s ≡ false → digits_from s 0 ≡ Some n → decimal_of n ≡ s
 unfolding digits_from
 all_digits [] some led e = absurd (omega arith)
 all_digits (x ∷ []) {n} some led e =
@@ -191,11 +191,11 @@ all_digits (x ∷ y ∷ s) some led e =
     ∙ rw (one_digit (0 * 10 + (x - digit_zero)) (omega arith), byte)
 
 -- A text that reads as a number is the number's own digits, and the number has at most 14 of them.
-pub number_digits : (s : List ℕ) {n : ℕ} → numeral_of s ≡ Is n → (decimal_of n ≡ s) × (n < 10 ^ most_digits)
+pub number_digits : (s : List ℕ) {n : ℕ} → numeral_of s ≡ Some n → (decimal_of n ≡ s) × (n < 10 ^ most_digits)
 unfolding numeral_of
 number_digits s {n} e = at (leb 1 (length s) && leb (length s) most_digits && not (leading_zero s)) refl e
   where
-    at : (b : Bool) → (leb 1 (length s) && leb (length s) most_digits && not (leading_zero s)) ≡ b → cond b (digits_from s 0) Malformed ≡ Is n
+    at : (b : Bool) → (leb 1 (length s) && leb (length s) most_digits && not (leading_zero s)) ≡ b → cond b (digits_from s 0) None ≡ Some n
         → (decimal_of n ≡ s) × (n < 10 ^ most_digits)
     at true b f =
         let long = and_left (leb 1 (length s) && leb (length s) most_digits) (not (leading_zero s)) b in

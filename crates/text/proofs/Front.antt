@@ -1,38 +1,37 @@
 -- What stands at the front of a text: a key, or a word with the byte that ends it.
 -- Assumes nothing.
-use Prim.Native.Nat.{ℕ, suc, ◌+◌, ◌-◌, ◌≤◌, ◌<◌, min}
+use Prim.Native.Nat.{ℕ, suc, ◌+◌, ◌-◌, ◌≤◌}
 use mathlib.Core.Path.{◌≡◌, refl, sym, ◌∙◌, ap}
-use mathlib.Core.Bool.{Bool, true, false, not, cond, ◌&&◌}
+use mathlib.Core.Bool.{Bool, true, false, cond, ◌&&◌}
 use mathlib.Core.List.{List, [], ◌∷◌, ◌++◌}
 use native.Mathlib.Numerals.{add-one}
 use native.Mathlib.Omega.{arith}
 use lib.Dec.{eqb, ltb, leb-suc-suc}
 use lib.ListN.{length, get_or, take, drop, length-take, length-drop, drop_of_length-le}
+use lib.Pointwise.{pointwise}
 use lib.Seq.{drop-drop, drop-cons, take-add, drop_at, length-take-le}
-use borrow.Author.Tests.{eq-eqb, ne_eqb, eqb-true, lt-ltb, le-ltb, ltb-true, ltb-false, not-true, not-false}
+use borrow.Author.Tests.{eq-eqb, ne_eqb, eqb-true, lt-ltb, le-ltb, ltb-true, ltb-false}
+use denote.Ref.{Bor}
+use Rattle.std.specs.Prelude.{Option, Some, None}
+use Rattle.std.specs.Option.{option_eq}
+use Rattle.std.specs.Slice.{IsItemAt}
 use Rattle.laws.proofs.And.{and_false, and_true}
 use Rattle.laws.proofs.Order.{never_both}
 use Rattle.text.specs.Part.{part_of}
 use Rattle.text.specs.Pieces.{index_of, before_of, after_of}
 use Rattle.text.specs.Words.{same_of, opens_of, behind_of}
-use Rattle.text.proofs.Parts.{part_tail, part_head, drop_within}
+use Rattle.text.proofs.Parts.{part_tail, part_head}
 use Rattle.text.proofs.Splitting.{has_of, index_within}
-use Rattle.text.proofs.Alike.{longer_differs, same_so_equal}
-
--- a text that is shorter than the key does not open with it
-opens_short : (key t : List ℕ) → length t < length key → false ≡ opens_of key t
-opens_short key t h =
-    let m = length-take (length key) t in
-    longer_differs (part_of t 0 (length key)) key (λ e. let n = rw (part_head t (length key)) at e in absurd (omega arith))
+use Rattle.text.proofs.Alike.{same_so_equal, eqb_turned, pointwise_same}
 
 module _ (s key : List ℕ) (at : ℕ) where
-  pub stands_short : {from : ℕ} → from ≡ min at (length s) → length s - from < length key → false ≡ opens_of key (drop at s)
-  stands_short e h = let m = length-drop at s in opens_short key (drop at s) (omega arith)
-
-  pub stands_there : {from : ℕ} {r : Bool} → from ≡ min at (length s) → r ≡ same_of (take (from + length key - from) (drop from s)) key → r ≡ opens_of key (drop at s)
-  stands_there {from} e f =
-      let n : from + length key - from ≡ length key = omega arith in
-      rw (part_head (drop at s) (length key), ← n, ← drop_within s at, ← e) f
+  -- what `starts_with` says of the text from a place on
+  pub stands_there : {t : List ℕ} {r : Bool} → t ≡ part_of s at (length s) → r ≡ pointwise eqb key (take (length key) t) → r ≡ opens_of key (drop at s)
+  stands_there {t} e f =
+      f
+      ∙ pointwise_same (take (length key) t) key
+      ∙ ap (λ (u : List ℕ). same_of (take (length key) u) key) (e ∙ part_tail s at)
+      ∙ ap (λ (u : List ℕ). same_of u key) (sym (part_head (drop at s) (length key)))
 
   -- a key that stands at a place ends no further than the end of s, unless it was sought behind it
   pub stands_within : {opened : Bool} → opened ≡ opens_of key (drop at s) → opened ≡ true → length key ≤ length s - at
@@ -56,16 +55,6 @@ other_byte x y b e f =
     let q = eqb-true x b e in
     let g = eq-eqb y b (sym p ∙ q) in
     never_both refl (sym g ∙ f))
-
-eqb_turned : (x y : ℕ) → eqb x y ≡ eqb y x
-eqb_turned x y = at (eqb x y) refl
-  where
-    at : (b : Bool) → eqb x y ≡ b → b ≡ eqb y x
-    at true e = sym (eq-eqb y x (sym (eqb-true x y e)))
-    at false e =
-        sym (ne_eqb y x (λ p.
-        let g = eq-eqb x y (sym p) in
-        never_both refl (sym g ∙ e)))
 
 -- none of some bytes is b
 unfoldable pub free : ℕ → List ℕ → Bool
@@ -283,19 +272,19 @@ module _ (s w : List ℕ) (at b : ℕ) {o : Bool} (e : o ≡ opens_of w (drop at
   opened : (c : Bool) → o ≡ c → front w (drop at s) ≡ c
   opened c h = sym (opens_front w (drop at s)) ∙ sym e ∙ h
 
-  pub ends_not : not o ≡ true → false ≡ opens_of (w ++ (b ∷ [])) (drop at s)
-  ends_not h = sym (opens_front (w ++ (b ∷ [])) (drop at s) ∙ front_not b w (drop at s) (opened false (not-true o h)))
+  pub ends_not : o ≡ false → o ≡ opens_of (w ++ (b ∷ [])) (drop at s)
+  ends_not h = h ∙ sym (opens_front (w ++ (b ∷ [])) (drop at s) ∙ front_not b w (drop at s) (opened false h))
 
-  ends_byte : not o ≡ false → opens_of (w ++ (b ∷ [])) (drop at s) ≡ front (b ∷ []) (drop (at + length w) s)
+  ends_byte : o ≡ true → opens_of (w ++ (b ∷ [])) (drop at s) ≡ front (b ∷ []) (drop (at + length w) s)
   ends_byte h =
       opens_front (w ++ (b ∷ [])) (drop at s)
-      ∙ front_more b w (drop at s) (opened true (not-false o h))
+      ∙ front_more b w (drop at s) (opened true h)
       ∙ ap (front (b ∷ [])) (drop-drop (length w) at s)
 
-  pub ends_short : not o ≡ false → length s ≤ at + length w → false ≡ opens_of (w ++ (b ∷ [])) (drop at s)
+  -- the byte behind the word, if there is one, is b
+  pub ends_there : {r : Bool} (last : Option (Bor ℕ)) (y : Bor ℕ) → o ≡ true → IsItemAt s (at + length w) last → r ≡ option_eq (λ x z. eqb x.now z.now) last (Some y) → y.now ≡ b → r ≡ opens_of (w ++ (b ∷ [])) (drop at s)
   unfolding front
-  ends_short h l = sym (ends_byte h ∙ ap (front (b ∷ [])) (drop_of_length-le s l))
-
-  pub ends_there : {r : Bool} → not o ≡ false → at + length w < length s → r ≡ eqb (get_or s (at + length w) 0) b → r ≡ opens_of (w ++ (b ∷ [])) (drop at s)
-  unfolding front
-  ends_there {r} h l f = f ∙ sym (ends_byte h ∙ ap (front (b ∷ [])) (drop-cons s (at + length w) 0 l) ∙ and_true (eqb (get_or s (at + length w) 0) b))
+  ends_there None y h g e f = e ∙ sym (ends_byte h ∙ ap (front (b ∷ [])) (drop_of_length-le s g.3))
+  ends_there (Some x) y h g e f =
+      e
+      ∙ rw (f, g.3.1 0) (sym (ends_byte h ∙ ap (front (b ∷ [])) (drop-cons s (at + length w) 0 g.3.0) ∙ and_true (eqb (get_or s (at + length w) 0) b)))

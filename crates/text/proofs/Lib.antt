@@ -3,7 +3,7 @@ pub mod Splitting
 pub mod Alike
 pub mod Front
 pub mod Standing
-pub mod Rows
+pub mod Listed
 pub mod Reading
 pub mod Decimal
 pub mod Between

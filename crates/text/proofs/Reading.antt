@@ -1,19 +1,20 @@
 -- A number's digits read.
 -- Assumes nothing.
+use Rattle.std.specs.Prelude.{Option, Some, None, ℕ}
 use Prim.Native.Nat.{ℕ, ◌+◌, ◌-◌, ◌*◌, ◌^◌, ◌≤◌, ◌<◌}
 use mathlib.Core.Path.{◌≡◌, refl}
-use mathlib.Core.Bool.{Bool, true, false}
+use mathlib.Core.Bool.{true, false}
 use mathlib.Core.List.{List}
 use native.Mathlib.Nat.{pow-suc, pow-le-pow_right}
 use native.Mathlib.Numerals.{add-one}
 use native.Mathlib.Omega.{arith}
-use lib.Dec.{lit<}
+use lib.Dec.{leb, ltb, lit<}
 use lib.ListN.{length, get_or, drop, drop_of_length-le}
 use lib.Seq.{drop-cons}
-use borrow.Author.Tests.{le-leb, lt-leb}
-use Rattle.text.specs.declared.Numeral.{Numeral}
-use Rattle.text.specs.declared.Numeral.TheVariants.{Is, Malformed}
-use Rattle.text.specs.Numbers.{most_digits, digit_zero, digit_nine, digits_from, leading_zero, numeral_of}
+use borrow.Author.Tests.{le-leb, lt-leb, leb-true, lt-ltb, eq-eqb, ne_eqb}
+use Rattle.std.specs.Char.{is_ascii_digit}
+use Rattle.laws.proofs.And.{and_right, and_false}
+use Rattle.text.specs.Numbers.{most_digits, digit_zero, digit_nine, digits_from, numeral_of}
 
 -- the first i bytes of s are digits and make the number v
 pub record Made (s : List ℕ) (v i : ℕ) : Type 0 where
@@ -29,44 +30,42 @@ module _ {s : List ℕ} where
   pub made_none : Made s 0 0
   made_none = record { within = omega arith; small = lit< tt; rest = refl }
 
-  pub made_below : {v i : ℕ} → Made s v i → i < length s → get_or s i 0 < digit_zero → Malformed ≡ digits_from s 0
+  pub made_not : {v i : ℕ} → Made s v i → i < length s → is_ascii_digit (get_or s i 0) ≡ false → None ≡ digits_from s 0
   unfolding digits_from
-  made_below {v} {i} m h d = simp (drop-cons s i 0 h, lt-leb digit_zero (get_or s i 0) d) at m.rest
+  made_not {v} {i} m h n = simp (drop-cons s i 0 h, n) at m.rest
 
-  pub made_above : {v i : ℕ} → Made s v i → i < length s → digit_zero ≤ get_or s i 0 → digit_nine < get_or s i 0 → Malformed ≡ digits_from s 0
+  pub made_next : {v i d : ℕ} → Made s v i → i < length s → is_ascii_digit (get_or s i 0) ≡ true → d ≡ get_or s i 0 - digit_zero → Made s (v * 10 + d) (i + 1)
   unfolding digits_from
-  made_above {v} {i} m h d n =
-      simp (drop-cons s i 0 h, le-leb digit_zero (get_or s i 0) d, lt-leb (get_or s i 0) digit_nine n) at m.rest
-
-  pub made_next : {v i d : ℕ} → Made s v i → i < length s → digit_zero ≤ get_or s i 0 → get_or s i 0 ≤ digit_nine → d ≡ get_or s i 0 - digit_zero → Made s (v * 10 + d) (i + 1)
-  unfolding digits_from
-  made_next {v} {i} {d} m h low high e =
+  made_next {v} {i} {d} m h t e =
       let q = m.small in
+      let high = leb-true (get_or s i 0) digit_nine (and_right (leb digit_zero (get_or s i 0)) (leb (get_or s i 0) digit_nine) t) in
       record {
         within = omega arith;
         small = rw (add-one i, pow-suc 10 i) (omega arith);
-        rest =
-            rw (add-one i, e)
-            (simp (drop-cons s i 0 h, le-leb digit_zero (get_or s i 0) low, le-leb (get_or s i 0) digit_nine high) at m.rest);
+        rest = rw (add-one i, e) (simp (drop-cons s i 0 h, t) at m.rest);
       }
 
-  pub made_all : {v i : ℕ} → Made s v i → length s ≤ i → Is v ≡ digits_from s 0
+  pub made_all : {v i : ℕ} → Made s v i → length s ≤ i → Some v ≡ digits_from s 0
   unfolding digits_from
   made_all m h = rw (drop_of_length-le s h) at m.rest
 
 -- which of its tests decides a number
-pub number_empty : (s : List ℕ) → length s < 1 → Malformed ≡ numeral_of s
+pub number_long : (s : List ℕ) → most_digits < length s → None ≡ numeral_of s
+unfolding numeral_of
+number_long s l = rw (le-leb 1 (length s) (omega arith), lt-leb (length s) most_digits l)
+
+pub number_empty : (s : List ℕ) → length s < 1 → None ≡ numeral_of s
 unfolding numeral_of
 number_empty s h = rw (lt-leb 1 (length s) h)
 
-pub number_long : (s : List ℕ) → 1 ≤ length s → most_digits < length s → Malformed ≡ numeral_of s
+pub number_led : (s : List ℕ) → length s ≤ most_digits → 2 ≤ length s → get_or s 0 0 ≡ digit_zero → None ≡ numeral_of s
 unfolding numeral_of
-number_long s h l = rw (le-leb 1 (length s) h, lt-leb (length s) most_digits l)
+number_led s l h e = rw (le-leb 1 (length s) (omega arith), le-leb (length s) most_digits l, lt-ltb 1 (length s) (omega arith), eq-eqb (get_or s 0 0) digit_zero e)
 
-pub number_led : (s : List ℕ) {led : Bool} → 1 ≤ length s → length s ≤ most_digits → led ≡ leading_zero s → led ≡ true → Malformed ≡ numeral_of s
+pub number_one : (s : List ℕ) {n : Option ℕ} → length s ≡ 1 → n ≡ digits_from s 0 → n ≡ numeral_of s
 unfolding numeral_of
-number_led s h l e t = rw (le-leb 1 (length s) h, le-leb (length s) most_digits l, ← e, t)
+number_one s h d = rw (h) d
 
-pub number_read : (s : List ℕ) {led : Bool} {n : Numeral} → 1 ≤ length s → length s ≤ most_digits → led ≡ leading_zero s → led ≡ false → n ≡ digits_from s 0 → n ≡ numeral_of s
+pub number_read : (s : List ℕ) {n : Option ℕ} → length s ≤ most_digits → 1 ≤ length s → (get_or s 0 0 ≡ digit_zero → ⊥) → n ≡ digits_from s 0 → n ≡ numeral_of s
 unfolding numeral_of
-number_read s h l e t d = rw (le-leb 1 (length s) h, le-leb (length s) most_digits l, ← e, t) d
+number_read s l h ne d = rw (le-leb 1 (length s) h, le-leb (length s) most_digits l, ne_eqb (get_or s 0 0) digit_zero ne, and_false (ltb 1 (length s))) d

@@ -2,7 +2,7 @@
 -- Assumes nothing.
 use Prim.Native.Nat.{ℕ, zero, suc, ◌+◌, ◌-◌, ◌≤◌, ◌<◌, max}
 use mathlib.Core.Path.{◌≡◌, refl, sym, ◌∙◌, ap}
-use mathlib.Core.Bool.{Bool, true, false, cond}
+use mathlib.Core.Bool.{Bool, true, false, not, cond}
 use mathlib.Core.List.{List, [], ◌∷◌}
 use native.Mathlib.Nat.{le_refl, add-suc, add-zero}
 use native.Mathlib.Numerals.{add-one}
@@ -10,6 +10,8 @@ use native.Mathlib.Omega.{arith}
 use lib.Dec.{eqb, ltb, leb-suc-suc}
 use lib.ListN.{length, get_or, take, drop, length-drop, drop_of_length-le}
 use lib.Seq.{take_all, drop-cons}
+use Rattle.std.specs.Prelude.{Option, Some, None, unwrap_or, position}
+use Rattle.std.specs.List.{position_or_len}
 use borrow.Author.Tests.{eq-eqb, ne_eqb, lt-ltb, ltb-true, ltb-false}
 use Rattle.text.specs.Part.{part_of}
 use Rattle.text.specs.Pieces.{index_of, before_of, after_of, joined, pieces, next_of, start_of}
@@ -27,6 +29,27 @@ index_within b (x ∷ s) = within (eqb x b) (index_within b s)
     within : (t : Bool) → index_of b s ≤ length s → cond t 0 (suc (index_of b s)) ≤ suc (length s)
     within true h = omega arith
     within false h = omega arith
+
+-- it is the first place that passes the test for b, or else the length
+index_position : (b : ℕ) (s : List ℕ) → index_of b s ≡ position_or_len (λ x. eqb x b) s
+unfolding index_of
+index_position b [] = refl
+index_position b (x ∷ s) = at (eqb x b) (index_position b s)
+  where
+    at : (t : Bool) → index_of b s ≡ position_or_len (λ y. eqb y b) s → cond t 0 (suc (index_of b s)) ≡ cond (not t) (1 + position_or_len (λ y. eqb y b) s) 0
+    at true h = refl
+    at false h = omega arith
+
+pub first_found : (b : ℕ) (s : List ℕ) {r : ℕ} {found : Option ℕ} → r ≡ unwrap_or found (length s) → found ≡ position (λ x. eqb x b) s → r ≡ index_of b s
+first_found b s e f = e ∙ ap (λ (o : Option ℕ). unwrap_or o (length s)) f ∙ at (ltb (position_or_len (λ x. eqb x b) s) (length s)) refl
+  where
+    at : (t : Bool) → ltb (position_or_len (λ x. eqb x b) s) (length s) ≡ t → unwrap_or (cond t (Some (position_or_len (λ x. eqb x b) s)) None) (length s) ≡ index_of b s
+    at true h = sym (index_position b s)
+    at false h =
+        let past = ltb-false (position_or_len (λ x. eqb x b) s) (length s) h in
+        let within = index_within b s in
+        let same = index_position b s in
+        omega arith
 
 -- a search for the first b has passed i bytes of s, none of which is b
 pub record Passed (b : ℕ) (s : List ℕ) (i : ℕ) : Type 0 where
@@ -93,6 +116,10 @@ start_past b s i zero h = rw (add-suc i 0, add-zero i) (omega arith)
 start_past b s i (suc d) h = let e = start_past b s i d h in rw (add-suc i (suc d), e) (omega arith)
 
 -- a walk over the pieces stands at the start of one
+pub start_first : (b : ℕ) (s : List ℕ) → 0 ≡ start_of b s 0
+unfolding start_of
+start_first b s = refl
+
 pub start_next : (b : ℕ) (s : List ℕ) (i : ℕ) {from at : ℕ} → from ≡ start_of b s i → at ≡ next_of b s from → at < length s → at + 1 ≡ start_of b s (i + 1)
 unfolding start_of
 start_next b s i e f h = rw (add-one i, ← e, ← f) (omega arith)

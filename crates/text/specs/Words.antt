@@ -1,11 +1,9 @@
 -- Texts compared, and a word's place in a list of words.
 -- Assumes nothing.
-use Rattle.std.specs.Prelude.{ℕ, zero, suc, ◌+◌, ◌/◌, Bool, true, false, cond, ◌&&◌, List, [], ◌∷◌, ◌++◌, length, take, drop, eqb}
-use Rattle.text.specs.declared.Found.{Found}
-use Rattle.text.specs.declared.Found.TheVariants.{At, Nothing}
+use Rattle.std.specs.Prelude.{ℕ, ◌+◌, Bool, true, false, cond, ◌&&◌, List, [], ◌∷◌, ◌++◌, length, drop, eqb, Option, Some, None}
 use Rattle.text.specs.declared.WordStep.{WordStep}
 use Rattle.text.specs.Part.{part_of}
-use Rattle.text.specs.Pieces.{pieces, space, before_of}
+use Rattle.text.specs.Pieces.{pieces, space}
 
 -- two texts are the same, byte for byte
 unfoldable pub same_of : List ℕ → List ℕ → Bool
@@ -29,31 +27,22 @@ abbrev pub behind_of : List ℕ → List ℕ → ℕ → ℕ
 behind_of key s at = cond (opens_of key (drop at s)) (at + length key) (length s)
 
 -- the place of the first of some words that is s, the words' places counted from k
-unfoldable pub place_from : List (List ℕ) → List ℕ → ℕ → Found
-place_from [] s k = Nothing
-place_from (w ∷ ws) s k = cond (same_of w s) (At k) (place_from ws s (k + 1))
+unfoldable pub place_from : List (List ℕ) → List ℕ → ℕ → Option ℕ
+place_from [] s k = None
+place_from (w ∷ ws) s k = cond (same_of w s) (Some k) (place_from ws s (k + 1))
 
 -- the place of s in a list of words with a space between each two, counted from 0
-abbrev pub place_of : List ℕ → List ℕ → Found
+abbrev pub place_of : List ℕ → List ℕ → Option ℕ
 place_of words s = place_from (pieces space words) s 0
-
--- some rows of n bytes each, of which each holds a word that is filled up with spaces
-unfoldable pub rows_from : ℕ → ℕ → List ℕ → List (List ℕ)
-rows_from zero n words = []
-rows_from (suc count) n words = before_of space (take n words) ∷ rows_from count n (drop n words)
-
--- the words of a list in rows of n bytes, as many as there are whole rows: none where n is 0
-unfoldable pub rows_of : ℕ → List ℕ → List (List ℕ)
-rows_of n words = rows_from (length words / n) n words
 
 -- no word: what would stand behind it is the end of the text
 abbrev pub unread : List ℕ → WordStep
-unread s = record { place = Nothing; next = length s }
+unread s = record { place = None; next = length s }
 
 -- the first of some words, their places counted from k, that stands at a place of s with the byte b behind it, and the place behind both
 unfoldable pub word_from : List (List ℕ) → ℕ → List ℕ → ℕ → ℕ → WordStep
 word_from [] b s at k = unread s
 word_from (w ∷ ws) b s at k =
     cond (opens_of (w ++ (b ∷ [])) (drop at s))
-    (record { place = At k; next = at + length (w ++ (b ∷ [])) })
+    (record { place = Some k; next = at + length (w ++ (b ∷ [])) })
     (word_from ws b s at (k + 1))

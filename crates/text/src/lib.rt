@@ -1,31 +1,18 @@
 // Texts and nothing of jobs: parts of a text, the pieces between a byte, a key or a word of a list where it stands, a number's digits.
 #![tactic(auto)]
 
-ghost use Rattle.std.specs.Prelude.{◌≡◌, ◌+◌, ◌≤◌, min, max, [], ◌∷◌, ◌++◌, length, drop};
+ghost use Rattle.std.specs.Prelude.{◌≡◌, ◌+◌, ◌≤◌, min, max, [], ◌∷◌, ◌++◌, length, drop, map};
 ghost use Rattle.text.specs.Part.{Part};
 ghost use Rattle.text.specs.Pieces.{index_of, next_of, start_of};
-ghost use Rattle.text.specs.Words.{same_of, agreed_of, opens_of, behind_of, unread, rows_of, word_from};
+ghost use Rattle.text.specs.Words.{same_of, agreed_of, opens_of, behind_of, unread, word_from};
 ghost use Rattle.text.specs.Numbers.{most_digits, leading_zero, digits_from, numeral_of};
 
-// The place of a word in a list of words, counted from 0.
-#[derive(Clone, Copy)]
-pub enum Found {
-    At(usize),
-    Nothing,
-}
-
-// A word read where it stands: its place in its list, and the place behind it and the byte that ends it.
+// A word read where it stands: its place in its list, and the place behind it and the byte that ends it. No Option of both: the
+// definition word_from gives the end of the text behind a word that does not stand there.
 #[derive(Clone, Copy)]
 pub struct WordStep {
-    pub place: Found,
+    pub place: Option<usize>,
     pub next: usize,
-}
-
-// The number that a text says.
-#[derive(Clone, Copy)]
-pub enum Numeral {
-    Is(u64),
-    Malformed,
 }
 
 // The most digits that a number may have.
@@ -36,128 +23,76 @@ pub fn part(s: &[u8], from: usize, to: usize) -> &[u8]
     ensures { Part s.entry from to result }
 {
     let end = s.len();
-    let start = least(from, end);
-    let stop = most(start, least(to, end));
+    let start = from.min(end);
+    let stop = start.max(to.min(end));
     &s[start..stop]
-}
-
-// The smaller of two places.
-fn least(a: usize, b: usize) -> usize
-    ensures { result ≡ min a b }
-{
-    if a < b { a } else { b }
-}
-
-// The larger of two places.
-fn most(a: usize, b: usize) -> usize
-    ensures { result ≡ max a b }
-{
-    if a < b { b } else { a }
 }
 
 // The place of the first b in s, or the length of s where there is none.
 fn first(s: &[u8], b: u8) -> usize
     ensures { result ≡ index_of b s.now }
 {
-    let mut i = 0;
-    while i < s.len() {
-        if s[i] == b {
-            return i;
-        }
-        i += 1;
-    }
-    i
+    s.iter().position(|x| *x == b).unwrap_or(s.len())
 }
 
-// The place of the first b at a place of s or behind it, or the end of s where there is none; a place behind the end itself.
+// The place of the first b at a place of s or behind it, or the end of s where there is none; a place behind the end itself. The end and
+// no Option: a line that nothing ends runs up to there (line_span of job, wrong_behind of review).
 pub fn next(s: &[u8], b: u8, from: usize) -> usize
     ensures { result ≡ next_of b s.now from }
 {
     from + first(part(s, from, s.len()), b)
 }
 
-// The place at which piece k of s between b begins, counted from 0: the end of s where there are fewer.
+// The place at which piece k of s between b begins, counted from 0: the end of s where there are fewer, and no Option, since start_of says
+// so.
+#[tactic(auto, using(crate::proofs::Splitting::start_first, crate::proofs::Splitting::start_next, crate::proofs::Splitting::start_there))]
 pub fn start(s: &[u8], b: u8, k: usize) -> usize
     ensures { result ≡ start_of b s.now k }
 {
     let mut from = 0;
-    let mut i = 0;
-    while i < k {
+    for _ in 0..k {
         let at = next(s, b, from);
         if s.len() <= at {
             return s.len();
         }
         from = at + 1;
-        i += 1;
     }
     from
-}
-
-// Two texts are the same, byte for byte.
-fn same(s: &[u8], t: &[u8]) -> bool
-    ensures { result ≡ same_of s.now t.now }
-{
-    if s.len() != t.len() {
-        return false;
-    }
-    let mut i = 0;
-    while i < s.len() {
-        if s[i] != t[i] {
-            return false;
-        }
-        i += 1;
-    }
-    true
 }
 
 // How many bytes two texts have in common from their start.
 pub fn agreed(s: &[u8], t: &[u8]) -> usize
     ensures { result ≡ length (agreed_of s.now t.now) }
 {
-    let both = least(s.len(), t.len());
-    let mut i = 0;
-    while i < both {
-        if t[i] != s[i] {
-            return i;
-        }
-        i += 1;
-    }
-    i
+    s.iter().zip(t).take_while(|(x, y)| x == y).count()
 }
 
 // The key stands in s at a place.
+#[tactic(auto, using(crate::proofs::Front::stands_there))]
 fn stands(s: &[u8], at: usize, key: &[u8]) -> bool
     ensures { result ≡ opens_of key.now (drop at s.now) }
 {
-    let from = least(at, s.len());
-    if s.len() - from < key.len() {
-        return false;
-    }
-    same(&s[from..from + key.len()], key)
+    part(s, at, s.len()).starts_with(key)
 }
 
-// The place behind the key that stands in s at a place: the end of s where it does not stand there.
+// The place behind the key that stands in s at a place: the end of s where it does not stand there, and no Option, since behind_of says
+// so. A text and a place in it travel apart from one another, as its definitions have them, and not as a rest of the text.
+#[tactic(auto, using(crate::proofs::Front::stands_within, crate::proofs::Front::behind_there, crate::proofs::Front::behind_none))]
 pub fn behind(s: &[u8], at: usize, key: &[u8]) -> usize
     ensures { result ≡ behind_of key.now s.now at }
 {
     if stands(s, at, key) {
-        return at + key.len();
+        at + key.len()
+    } else {
+        s.len()
     }
-    s.len()
 }
 
 // A word stands in s at a place, with the byte that ends it behind it.
 fn ends(s: &[u8], at: usize, word: &[u8], end: u8) -> bool
     ensures { result ≡ opens_of (word.now ++ (end ∷ [])) (drop at s.now) }
 {
-    if !stands(s, at, word) {
-        return false;
-    }
-    let behind = at + word.len();
-    if s.len() <= behind {
-        return false;
-    }
-    s[behind] == end
+    stands(s, at, word) && s.get(at + word.len()) == Some(&end)
 }
 
 // No word of a list stands there.
@@ -165,85 +100,49 @@ fn unread(s: &[u8]) -> WordStep
     ensures { result ≡ unread s.now }
 {
     WordStep {
-        place: Found::Nothing,
+        place: None,
         next: s.len(),
     }
 }
 
-// The word of a list that stands in s at a place, with a byte that ends it. The list has a row of so many bytes for each
-// word, filled up with spaces.
-pub fn word_at(words: &[u8], width: usize, s: &[u8], at: usize, end: u8) -> WordStep
-    ensures { result ≡ word_from (rows_of width words.now) end s.now at 0 }
+// The word of a list that stands in s at a place, with a byte that ends it.
+pub fn word_at(words: &[&[u8]], s: &[u8], at: usize, end: u8) -> WordStep
+    ensures { result ≡ word_from (map (λ w. w.now) words.now) end s.now at 0 }
 {
-    if width < 1 {
-        return unread(s);
-    }
-    let count = words.len() / width;
-    let mut row = 0;
-    let mut k = 0;
-    while k < count {
-        let size = first(&words[row..row + width], b' ');
-        if ends(s, at, &words[row..row + size], end) {
+    for (k, word) in words.iter().enumerate() {
+        if ends(s, at, word, end) {
             return WordStep {
-                place: Found::At(k),
-                next: at + size + 1,
+                place: Some(k),
+                next: at + word.len() + 1,
             };
         }
-        row += width;
-        k += 1;
     }
     unread(s)
 }
 
 // The number that s says: 1 to 14 digits, with no leading zero except 0 itself.
-pub fn number(s: &[u8]) -> Numeral
+#[tactic(auto, using(crate::proofs::Reading::number_long, crate::proofs::Reading::number_empty, crate::proofs::Reading::number_led, crate::proofs::Reading::number_one, crate::proofs::Reading::number_read))]
+pub fn number(s: &[u8]) -> Option<u64>
     ensures { result ≡ numeral_of s.now }
 {
-    if s.len() < 1 {
-        return Numeral::Malformed;
+    match s {
+        _ if MOST_DIGITS < s.len() => None,
+        [] | [b'0', _, ..] => None,
+        _ => digits(s),
     }
-    if MOST_DIGITS < s.len() {
-        return Numeral::Malformed;
-    }
-    if leads_with_zero(s) {
-        return Numeral::Malformed;
-    }
-    digits(s)
-}
-
-// s has more digits than one, of which the first is 0.
-fn leads_with_zero(s: &[u8]) -> bool
-    ensures { result ≡ leading_zero s.now }
-{
-    if 1 < s.len() {
-        return s[0] == b'0';
-    }
-    false
 }
 
 // The number that the digits of s make.
-fn digits(s: &[u8]) -> Numeral
+fn digits(s: &[u8]) -> Option<u64>
     requires { length s.now ≤ most_digits }
     ensures { result ≡ digits_from s.now 0 }
 {
-    let mut v: u64 = 0;
-    let mut i = 0;
-    while i < s.len() {
-        let x = s[i];
-        if x < b'0' {
-            return Numeral::Malformed;
+    let mut v = 0;
+    for &x in s {
+        if !x.is_ascii_digit() {
+            return None;
         }
-        if b'9' < x {
-            return Numeral::Malformed;
-        }
-        v = v * 10 + wide(x - b'0');
-        i += 1;
+        v = v * 10 + u64::from(x - b'0');
     }
-    Numeral::Is(v)
-}
-
-fn wide(x: u8) -> u64
-    ensures { result ≡ x }
-{
-    x as u64
+    Some(v)
 }

@@ -1,4 +1,5 @@
 pub mod Limits
 pub mod Depths
 pub mod Columns
+pub mod Cases
 pub mod Promises

@@ -1,9 +1,11 @@
 // Rules, "Units, all whole numbers": acres, inches, cubic feet and pounds each keep their own kind.
 #![tactic(auto)]
 
-ghost use Rattle.std.specs.Prelude.{◌≡◌};
+ghost use Rattle.std.specs.Prelude.{◌≡◌, ℕ, List, Some, slice_get};
+ghost use Rattle.std.proofs.Common.{rules};
 ghost use Rattle.units.specs.Depths.{on_grid};
 ghost use Rattle.units.specs.Columns.{column_place};
+ghost use Rattle.units.specs.Cases.{coded, nutrients, nutrient_place};
 
 use refusal::Refusal;
 
@@ -41,38 +43,72 @@ pub const MOST_RATE: u64 = 10_000;
 
 pub const MOST_PERCENT: u64 = 100_000;
 
-// A depth of the grid, or the refusal.
-#[derive(Clone, Copy)]
-pub enum DepthAnswer {
-    Granted(Depth),
-    Refused(Refusal),
-}
-
 impl Depth {
     pub const LOWEST: u64 = 0;
 
     pub const HIGHEST: u64 = 200;
 
     // The grid depth of so many hundredths of an inch, refused 9 above the highest.
-    pub fn new(hundredths: u64) -> DepthAnswer
+    pub fn new(hundredths: u64) -> Result<Depth, Refusal>
         ensures { result ≡ on_grid hundredths }
     {
         if hundredths <= Depth::HIGHEST {
-            return DepthAnswer::Granted(Depth(hundredths));
+            return Ok(Depth(hundredths));
         }
-        DepthAnswer::Refused(Refusal::AmountOutOfRange)
+        Err(Refusal::AmountOutOfRange)
     }
 }
 
 // Phosphorus or nitrogen.
-#[derive(Clone, Copy)]
+#[derive(Clone, Copy, Debug, PartialEq, Eq)]
 pub enum Nutrient {
     P,
     N,
 }
 
+// An enum whose cases stand in an order, so that a number tells one: its code, the place counted from 0.
+pub trait Coded: Copy + 'static {
+    ghost cases: { List Self };
+
+    ghost place: { Self → ℕ };
+
+    fn cases() -> &'static [Self]
+        ensures { result.now ≡ cases };
+
+    fn place(self) -> usize
+        ensures { result ≡ place self };
+
+    // The case of a code, refused 1 where there is none.
+    fn coded(code: u64) -> Result<Self, Refusal>
+        ensures { result ≡ coded cases code }
+    {
+        Self::cases()
+            .get(code as usize)
+            .copied()
+            .ok_or(Refusal::MalformedText)
+    }
+
+    ghost in_order: { (x : Self) → slice_get cases (place x) ≡ Some x };
+}
+
+impl Coded for Nutrient {
+    ghost cases = { nutrients };
+
+    ghost place = { nutrient_place };
+
+    ghost in_order = { Prim.search rules };
+
+    fn cases() -> &'static [Nutrient] {
+        &[Nutrient::P, Nutrient::N]
+    }
+
+    fn place(self) -> usize {
+        self as usize
+    }
+}
+
 // The soil columns that Tables 3-1, 3-2 and 3-4 share.
-#[derive(Clone, Copy)]
+#[derive(Clone, Copy, Debug, PartialEq, Eq)]
 pub enum Column {
     A,
     B,
@@ -85,11 +121,5 @@ pub enum Column {
 pub fn place(c: Column) -> usize
     ensures { result ≡ column_place c }
 {
-    match c {
-        Column::A => 0,
-        Column::B => 1,
-        Column::C => 2,
-        Column::CD => 3,
-        Column::D => 4,
-    }
+    c as usize
 }

@@ -1,36 +1,137 @@
--- Laws of the products that V is made of: what each is, and that none of them, nor their sum, grows too large.
+-- Laws of the sum that V is made of: its terms, column by column, and that neither they nor their sum grow too large.
 -- Assumes nothing.
-use Prim.Native.Nat.{ℕ, ◌+◌, ◌*◌, ◌≤◌}
+use Rattle.std.specs.Prelude.{Result, Ok}
+use Rattle.refusal.specs.declared.Refusal.{Refusal}
+use Prim.Native.Nat.{ℕ, suc, ◌+◌, ◌*◌, ◌≤◌, ◌<◌}
 use mathlib.Core.List.{List, [], ◌∷◌}
-use mathlib.Core.Path.{◌≡◌, sym, ◌∙◌, ap}
+use mathlib.Core.Path.{◌≡◌, refl, sym, ◌∙◌, ap}
 use mir.Syntax.{w64}
 use mir.Val.{Fits}
-use native.Mathlib.Nat.{le_trans, lt_of_le_of_lt, mul-le-mul_left, mul_assoc}
+use native.Mathlib.Nat.{mul-le-mul_left, mul-le-mul_right}
+use native.Mathlib.Numerals.{add-one}
 use native.Mathlib.Omega.{arith}
-use lib.Dec.{lit<, lit≤}
+use lib.Dec.{lit≤}
+use lib.ListN.{length, get_or, drop, drop_of_length-le}
+use lib.Seq.{drop-cons}
 use borrow.Author.Tests.{le-leb}
 use Rattle.laws.specs.Sum.{sum_of}
-use Rattle.refusal.specs.declared.Refusal.{Refusal}
+use Rattle.laws.proofs.Sum.{sum_turn}
 use Rattle.units.specs.declared.Area.{Area}
 use Rattle.units.specs.declared.Depth.{Depth}
 use Rattle.units.specs.declared.Column.{Column}
 use Rattle.units.specs.declared.Column.TheVariants.{A, B, C, CD, D}
 use Rattle.units.specs.Limits.{most_area, highest_depth}
-use Rattle.runoff.specs.declared.RunoffAnswer.{RunoffAnswer}
-use Rattle.runoff.specs.declared.RunoffAnswer.TheVariants.{Granted, Refused}
 use Rattle.runoff.specs.declared.RunoffDepth.{RunoffDepth}
-use Rattle.runoff.specs.Runoff.{entry_of, runoff_of, given}
+use Rattle.runoff.specs.Runoff.{entry_of, runoff_of, runoff_sheet, given}
 use Rattle.runoff.proofs.LineRule.{sheet_at, runoff_most}
-use Rattle.volume.specs.Areas.{area_at, total_of, soils_runoff, volume_from}
-use Rattle.volume.specs.Inner.{fullest, Six, OnSheet}
+use Rattle.volume.specs.Areas.{no_area, area_at, total_of, soils_runoff, volume_from}
 use Rattle.volume.proofs.Gathering.{at_most}
 
--- Each of the six areas is within the limit.
-pub each_small : (xs : List Area) (k : ℕ) → Six xs → area_at xs k ≤ most_area
-each_small xs k s =
-    let m = at_most xs k in
-    omega (arith, s.small)
+-- On the constant sheet the look-up at a grid depth finds the runoff.
+pub found_is : (sheet : List ℕ) (c : Column) (d : Depth) {found : Result RunoffDepth Refusal} {x : RunoffDepth} → sheet ≡ runoff_sheet → d.0 ≤ highest_depth
+    → found ≡ entry_of sheet c d → found ≡ Ok x → x.0 ≡ runoff_of c d.0
+found_is sheet c d s h e f =
+    let g : entry_of sheet c d ≡ Ok (record { 0 = runoff_of c d.0 }) = simp (le-leb d.0 highest_depth h, s, sheet_at c d.0 h) in
+    ap (λ (r : Result RunoffDepth Refusal). (given r).1) (sym f ∙ e ∙ g)
 
+-- the soil columns, in the order of the six areas
+abbrev pub columns : List Column
+columns = A ∷ B ∷ C ∷ CD ∷ D ∷ []
+
+-- area × runoff, over columns
+pub soils_from : List Column → List Area → ℕ → ℕ
+soils_from [] xs d = 0
+soils_from (c ∷ cs) [] d = 0
+soils_from (c ∷ cs) (x ∷ xs) d = x.0 * runoff_of c d + soils_from cs xs d
+
+all_soils : (xs : List Area) (d : ℕ) → length xs ≡ 6 → soils_from columns (drop 1 xs) d ≡ soils_runoff xs d
+unfolding soils_from
+all_soils (x₀ ∷ x₁ ∷ x₂ ∷ x₃ ∷ x₄ ∷ x₅ ∷ []) d l = omega arith
+all_soils [] d l = absurd (omega arith)
+all_soils (x₀ ∷ []) d l = absurd (omega arith)
+all_soils (x₀ ∷ x₁ ∷ []) d l = absurd (omega arith)
+all_soils (x₀ ∷ x₁ ∷ x₂ ∷ []) d l = absurd (omega arith)
+all_soils (x₀ ∷ x₁ ∷ x₂ ∷ x₃ ∷ []) d l = absurd (omega arith)
+all_soils (x₀ ∷ x₁ ∷ x₂ ∷ x₃ ∷ x₄ ∷ []) d l = absurd (omega arith)
+all_soils (x₀ ∷ x₁ ∷ x₂ ∷ x₃ ∷ x₄ ∷ x₅ ∷ x₆ ∷ xs) d l = absurd (omega arith)
+
+-- The sum so far, with the columns from place i on, is the whole sum; and were each runoff left 60,000, it would still be small.
+pub record Summing (xs : List Area) (d i sum : ℕ) : Type 0 where
+  pub six : length xs ≡ 6
+  pub rest : sum + soils_from (drop i columns) (drop (i + 1) xs) d ≡ 300 * d * area_at xs 0 + soils_runoff xs d
+  pub small : sum + 60_000 * total_of (drop (i + 1) xs) ≤ 60_000 * most_area
+
+module _ (xs : List Area) (d : ℕ) where
+  module _ (l : length xs ≡ 6) (s : total_of xs ≤ most_area) (h : d ≤ highest_depth) where
+    first_small : 300 * d * area_at xs 0 ≤ 60_000 * area_at xs 0
+    first_small = let k : 300 * d ≤ 60_000 = omega arith in mul-le-mul_right (area_at xs 0) k
+
+    pub first_fits : Fits w64 (300 * d * area_at xs 0)
+    first_fits =
+        let m = at_most xs 0 in
+        let f = first_small in
+        record { fits = omega arith }
+
+    pub sum_starts : Summing xs d 0 (300 * d * area_at xs 0)
+    sum_starts =
+        let f = first_small in
+        let t = sum_turn (λ (x : Area). x.0) xs 0 no_area (omega arith) in
+        let a = all_soils xs d l in
+        record { six = l; rest = omega arith; small = omega arith }
+
+  module _ (i sum : ℕ) (g : Summing xs d i sum) where
+    module _ (h : i < 5) (k : d ≤ highest_depth) (r : ℕ) (e : r ≡ runoff_of (get_or columns i A) d) where
+      left : soils_from (drop i columns) (drop (i + 1) xs) d
+          ≡ area_at xs (i + 1) * runoff_of (get_or columns i A) d + soils_from (drop (i + 1) columns) (drop (i + 1 + 1) xs) d
+      unfolding soils_from
+      left = let n = g.six in rw (drop-cons columns i A (omega arith), drop-cons xs (i + 1) no_area (omega arith), add-one i, add-one (suc i)) refl
+
+      -- a term is at most 60,000 times its area
+      term_small : area_at xs (i + 1) * r ≤ area_at xs (i + 1) * 60_000
+      term_small = let m = runoff_most (get_or columns i A) d k in mul-le-mul_left (area_at xs (i + 1)) (omega arith)
+
+      pub term_fits : Fits w64 (area_at xs (i + 1) * r)
+      term_fits =
+          let n = g.six in
+          let m = term_small in
+          let t = sum_turn (λ (x : Area). x.0) xs (i + 1) no_area (omega arith) in
+          let s = g.small in
+          record { fits = omega arith }
+
+      sum_small : sum + area_at xs (i + 1) * r + 60_000 * total_of (drop (i + 1 + 1) xs) ≤ 60_000 * most_area
+      sum_small =
+          let n = g.six in
+          let m = term_small in
+          let t = sum_turn (λ (x : Area). x.0) xs (i + 1) no_area (omega arith) in
+          let s = g.small in
+          omega arith
+
+      pub sum_fits : Fits w64 (sum + area_at xs (i + 1) * r)
+      sum_fits = let s = sum_small in record { fits = omega arith }
+
+      pub sum_next : Summing xs d (i + 1) (sum + area_at xs (i + 1) * r)
+      sum_next =
+          let z = left in
+          let w = g.rest in
+          let p = ap (λ (n : ℕ). area_at xs (i + 1) * n) e in
+          record { six = g.six; rest = omega arith; small = sum_small }
+
+    module _ (h : 5 ≤ i) where
+      pub whole_fits : Fits w64 (121 * sum)
+      whole_fits = let s = g.small in record { fits = omega arith }
+
+      -- Where no column is left, the sum makes V.
+      pub sum_ends : 121 * sum ≡ volume_from xs d
+      unfolding soils_from volume_from
+      sum_ends =
+          let w = none_left (drop (i + 1) xs) in
+          let z = g.rest in
+          omega arith
+        where
+          none_left : (ys : List Area) → soils_from (drop i columns) ys d ≡ 0
+          none_left ys = rw (drop_of_length-le columns h) refl
+
+-- The six areas are parts of their total.
 six_le : (xs : List Area) → area_at xs 0 + (area_at xs 1 + (area_at xs 2 + (area_at xs 3 + (area_at xs 4 + area_at xs 5)))) ≤ total_of xs
 unfolding sum_of
 six_le [] = omega arith
@@ -41,87 +142,11 @@ six_le (a ∷ b ∷ c ∷ d ∷ []) = omega arith
 six_le (a ∷ b ∷ c ∷ d ∷ e ∷ []) = omega arith
 six_le (a ∷ b ∷ c ∷ d ∷ e ∷ f ∷ xs) = omega arith
 
--- So are all six together.
-pub all_small : (xs : List Area) → Six xs → area_at xs 0 + (area_at xs 1 + (area_at xs 2 + (area_at xs 3 + (area_at xs 4 + area_at xs 5)))) ≤ most_area
-all_small xs s = le_trans (six_le xs) s.small
-
--- The volume of an impervious area is at most 121 × 60,000 times the area, and fits.
-module _ (a d : ℕ) where
-  pub impervious_is : 36_300 * a * d ≡ 121 * (300 * d * a)
-  impervious_is = omega arith
-
-  pub impervious_most : d ≤ highest_depth → 36_300 * a * d ≤ fullest * a
-  impervious_most h =
-      let m : 36_300 * a * d ≤ 36_300 * a * 200 = mul-le-mul_left (36_300 * a) h in
-      omega arith
-
-  pub impervious_fits : a ≤ most_area → d ≤ highest_depth → Fits w64 (36_300 * a * d)
-  impervious_fits l h =
-      let m = impervious_most h in
-      let n : 36_300 * a * d ≤ fullest * most_area = omega arith in
-      record { fits = lt_of_le_of_lt n (lit< tt) }
-
-module _ (sheet : List ℕ) (c : Column) (depth : Depth) (found : RunoffAnswer) (on : OnSheet sheet depth.0) (e : found ≡ entry_of sheet c depth) where
-  abbrev d : ℕ
-  d = depth.0
-
-  told : found ≡ Granted (record { 0 = runoff_of c d })
-  told =
-      let g : entry_of sheet c depth ≡ Granted (record { 0 = runoff_of c d }) =
-      simp (le-leb d highest_depth on.grid, on.constant, sheet_at c d on.grid) in
-      e ∙ g
-
-  -- On the constant sheet the look-up at a grid depth finds the runoff.
-  found_is : (x : RunoffDepth) → found ≡ Granted x → x.0 ≡ runoff_of c d
-  found_is x f = ap (λ (r : RunoffAnswer). (given r).1) (sym f ∙ told)
-
-  pub never_refused : (why : Refusal) → found ≡ Refused why → ⊥
-  never_refused why f =
-      let t = told in
-      let z : ◌≡◌ {A = ℕ} 0 1 = cc in
-      omega arith
-
-  -- The volume of a pervious area, at most 121 × 60,000 times the area.
-  module _ (a : ℕ) (x : RunoffDepth) (f : found ≡ Granted x) where
-    pub soil_is : 121 * a * x.0 ≡ 121 * (a * runoff_of c d)
-    soil_is = mul_assoc 121 a x.0 ∙ ap (λ (n : ℕ). 121 * (a * n)) (found_is x f)
-
-    pub soil_most : 121 * a * x.0 ≤ fullest * a
-    soil_most =
-        let m = runoff_most c d on.grid in
-        let q = found_is x f in
-        let l : x.0 ≤ 60_000 = omega arith in
-        let p : 121 * a * x.0 ≤ 121 * a * 60_000 = mul-le-mul_left (121 * a) l in
-        omega arith
-
-    pub soil_small : a ≤ most_area → 121 * a * x.0 ≤ fullest * most_area
-    soil_small l = let m = soil_most in omega arith
-
-    pub soil_fits : a ≤ most_area → Fits w64 (121 * a * x.0)
-    soil_fits l = record { fits = lt_of_le_of_lt (soil_small l) (lit< tt) }
-
--- The sum over the soils, with what the impervious area can bring, stays within V(200) of the largest site.
-pub soils_most : (xs : List Area) (a b c d e : ℕ) → Six xs → a ≤ fullest * area_at xs 1 → b ≤ fullest * area_at xs 2 → c ≤ fullest * area_at xs 3
-    → d ≤ fullest * area_at xs 4 → e ≤ fullest * area_at xs 5 → a + b + c + d + e + fullest * area_at xs 0 ≤ fullest * most_area
-soils_most xs a b c d e s h i j k l =
-    let m = all_small xs s in
-    omega arith
-
--- The volumes of the five soil columns, and with that of the impervious area V.
-pub soils_are : (xs : List Area) (depth a b c d e : ℕ) → a ≡ 121 * (area_at xs 1 * runoff_of A depth) → b ≡ 121 * (area_at xs 2 * runoff_of B depth)
-    → c ≡ 121 * (area_at xs 3 * runoff_of C depth) → d ≡ 121 * (area_at xs 4 * runoff_of CD depth) → e ≡ 121 * (area_at xs 5 * runoff_of D depth)
-    → a + b + c + d + e ≡ 121 * soils_runoff xs depth
-soils_are xs depth a b c d e h i j k l = omega arith
-
-pub volume_is : (xs : List Area) (d i p : ℕ) → i ≡ 121 * (300 * d * area_at xs 0) → p ≡ 121 * soils_runoff xs d → i + p ≡ volume_from xs d
-unfolding volume_from
-volume_is xs d i p e f = omega arith
-
 -- V(200) from six areas is at most that of the largest site, all of it impervious.
-pub from_most : (xs : List Area) → Six xs → volume_from xs highest_depth ≤ fullest * most_area
+pub from_most : (xs : List Area) → total_of xs ≤ most_area → volume_from xs highest_depth ≤ 7_260_000 * most_area
 unfolding volume_from
 from_most xs s =
-    let m = all_small xs s in
+    let m = six_le xs in
     let a = mul-le-mul_left (area_at xs 1) (runoff_most A highest_depth (lit≤ tt)) in
     let b = mul-le-mul_left (area_at xs 2) (runoff_most B highest_depth (lit≤ tt)) in
     let c = mul-le-mul_left (area_at xs 3) (runoff_most C highest_depth (lit≤ tt)) in

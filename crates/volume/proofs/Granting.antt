@@ -1,5 +1,6 @@
 -- When the calls on a site grant: the record is judged fine and the amount is within its limit. V(200) never passes 10^13.
 -- Assumes nothing.
+use Rattle.std.specs.Prelude.{Result, Ok, Err}
 use Prim.Native.Nat.{ℕ, ◌≤◌, ◌<◌}
 use mathlib.Core.Bool.{Bool, true, false}
 use mathlib.Core.List.{[], ◌∷◌}
@@ -15,18 +16,14 @@ use Rattle.refusal.proofs.Numbers.{refusal_not_granted}
 use Rattle.units.specs.declared.Area.{Area}
 use Rattle.units.specs.declared.Depth.{Depth}
 use Rattle.units.specs.declared.Volume.{Volume}
-use Rattle.units.specs.declared.DepthAnswer.TheVariants as depth
 use Rattle.units.specs.Limits.{largest, highest_depth}
 use Rattle.units.specs.Depths as depths
 use Rattle.site.specs.declared.Site.{Site}
-use Rattle.site.specs.declared.AreaAnswer.{AreaAnswer}
-use Rattle.site.specs.declared.AreaAnswer.TheVariants as area
 use Rattle.site.specs.Parts.{parts_of}
 use Rattle.site.specs.Judging.{judged}
 use Rattle.site.specs.Judging as site
 use Rattle.site.proofs.Judging.{judged_fine}
 use Rattle.site.proofs.Promises.{given_refused, given_some}
-use Rattle.volume.specs.declared.VolumeAnswer.TheVariants.{Granted, Refused}
 use Rattle.volume.specs.Volume.{volume_of, depth_of}
 use Rattle.volume.specs.Answers.{not_past, volume_answer, depth_answer, given}
 use Rattle.volume.proofs.Rising.{volume_fits}
@@ -48,27 +45,27 @@ module _ (value : ℕ) where
 
 -- A call on a record, as a pair of numbers: a refused record gives its number, and for another an amount within its limit the value.
 module _ (s : Site) (answer : ℕ × ℕ) (amount most value : ℕ)
-    (fine : (total : Area) → judged s ≡ area.Granted total → answer ≡ tried value (leb amount most))
-    (refused : (why : Refusal) → judged s ≡ area.Refused why → answer ≡ (number_of why, 0)) where
+    (fine : (total : Area) → judged s ≡ Ok total → answer ≡ tried value (leb amount most))
+    (refused : (why : Refusal) → judged s ≡ Err why → answer ≡ (number_of why, 0)) where
   granted_only : (n : ℕ) → answer ≡ (granted, n) → ((site.given (judged s)).0 ≡ granted) × (amount ≤ most) × (value ≡ n)
   granted_only n h = told (judged s) refl
     where
-      told : (x : AreaAnswer) → judged s ≡ x → ((site.given (judged s)).0 ≡ granted) × (amount ≤ most) × (value ≡ n)
-      told (area.Granted total) e =
+      told : (x : Result Area Refusal) → judged s ≡ x → ((site.given (judged s)).0 ≡ granted) × (amount ≤ most) × (value ≡ n)
+      told (Ok total) e =
           let t = tried_granted value (leb amount most) n (sym (fine total e) ∙ h) in
           (simp e, leb-true amount most t.0, t.1)
-      told (area.Refused why) e = absurd (refusal_not_granted why (ap (λ (g : ℕ × ℕ). g.0) (sym (refused why e) ∙ h)))
+      told (Err why) e = absurd (refusal_not_granted why (ap (λ (g : ℕ × ℕ). g.0) (sym (refused why e) ∙ h)))
 
   granted_there : (n : ℕ) → (site.given (judged s)).0 ≡ granted → amount ≤ most → value ≡ n → answer ≡ (granted, n)
   granted_there n h l v = told (judged s) refl
     where
-      told : (x : AreaAnswer) → judged s ≡ x → answer ≡ (granted, n)
-      told (area.Granted total) e = fine total e ∙ tried_passes value (leb amount most) n (le-leb amount most l) v
-      told (area.Refused why) e = absurd (refusal_not_granted why (sym (ap (λ (x : AreaAnswer). (site.given x).0) e) ∙ h))
+      told : (x : Result Area Refusal) → judged s ≡ x → answer ≡ (granted, n)
+      told (Ok total) e = fine total e ∙ tried_passes value (leb amount most) n (le-leb amount most l) v
+      told (Err why) e = absurd (refusal_not_granted why (sym (ap (λ (x : Result Area Refusal). (site.given x).0) e) ∙ h))
 
   -- A refused record gives its own number,
   own_number : ((site.given (judged s)).0 ≡ granted → ⊥) → answer ≡ ((site.given (judged s)).0, 0)
-  own_number h = let r = given_refused (judged s) h in refused r.0 r.1 ∙ ap (λ (x : AreaAnswer). ((site.given x).0, 0)) (sym r.1)
+  own_number h = let r = given_refused (judged s) h in refused r.0 r.1 ∙ ap (λ (x : Result Area Refusal). ((site.given x).0, 0)) (sym r.1)
 
   -- and another refuses an amount above its limit with 9.
   amount_refused : (site.given (judged s)).0 ≡ granted → most < amount → answer ≡ (number_of AmountOutOfRange, 0)
@@ -76,19 +73,19 @@ module _ (s : Site) (answer : ℕ × ℕ) (amount most value : ℕ)
       let g = given_some (judged s) h in fine g.0 g.1 ∙ ap (tried value) (lt-leb amount most l)
 
 -- V(200) of a record that is judged fine is within 10^13
-fits_known : (s : Site) (total : Area) → judged s ≡ area.Granted total → not_past (volume_of (parts_of s) highest_depth) ≡ true
+fits_known : (s : Site) (total : Area) → judged s ≡ Ok total → not_past (volume_of (parts_of s) highest_depth) ≡ true
 fits_known s total e = le-leb _ _ (volume_fits (parts_of s) (judged_fine s total e).total)
 
 module _ (s : Site) (d : Depth) where
-  volume_fine : (total : Area) → judged s ≡ area.Granted total → given (volume_answer s d) ≡ tried (volume_of (parts_of s) d.0) (leb d.0 highest_depth)
+  volume_fine : (total : Area) → judged s ≡ Ok total → given (volume_answer s d) ≡ tried (volume_of (parts_of s) d.0) (leb d.0 highest_depth)
   unfolding volume_answer
   volume_fine total e = simp (e, fits_known s total e) (told (leb d.0 highest_depth))
     where
-      told : (b : Bool) → given (in_turn Refused (Granted (record { 0 = volume_of (parts_of s) d.0 })) ((b, AmountOutOfRange) ∷ [])) ≡ tried (volume_of (parts_of s) d.0) b
+      told : (b : Bool) → given (in_turn Err (Ok (record { 0 = volume_of (parts_of s) d.0 })) ((b, AmountOutOfRange) ∷ [])) ≡ tried (volume_of (parts_of s) d.0) b
       told true = refl
       told false = refl
 
-  volume_refused : (why : Refusal) → judged s ≡ area.Refused why → given (volume_answer s d) ≡ (number_of why, 0)
+  volume_refused : (why : Refusal) → judged s ≡ Err why → given (volume_answer s d) ≡ (number_of why, 0)
   unfolding volume_answer
   volume_refused why e = simp e
 
@@ -107,15 +104,15 @@ module _ (s : Site) (d : Depth) where
   volume_above = amount_refused s _ _ _ _ volume_fine volume_refused
 
 module _ (s : Site) (v : Volume) where
-  depth_fine : (total : Area) → judged s ≡ area.Granted total → depths.given (depth_answer s v) ≡ tried (depth_of (parts_of s) v.0) (leb v.0 largest)
+  depth_fine : (total : Area) → judged s ≡ Ok total → depths.given (depth_answer s v) ≡ tried (depth_of (parts_of s) v.0) (leb v.0 largest)
   unfolding depth_answer depth_of
   depth_fine total e = simp (e, fits_known s total e) (told (leb v.0 largest))
     where
-      told : (b : Bool) → depths.given (in_turn depth.Refused (depth.Granted (record { 0 = depth_of (parts_of s) v.0 })) ((b, AmountOutOfRange) ∷ [])) ≡ tried (depth_of (parts_of s) v.0) b
+      told : (b : Bool) → depths.given (in_turn Err (Ok (record { 0 = depth_of (parts_of s) v.0 })) ((b, AmountOutOfRange) ∷ [])) ≡ tried (depth_of (parts_of s) v.0) b
       told true = refl
       told false = refl
 
-  depth_refused : (why : Refusal) → judged s ≡ area.Refused why → depths.given (depth_answer s v) ≡ (number_of why, 0)
+  depth_refused : (why : Refusal) → judged s ≡ Err why → depths.given (depth_answer s v) ≡ (number_of why, 0)
   unfolding depth_answer
   depth_refused why e = simp e
 

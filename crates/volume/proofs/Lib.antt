@@ -1,4 +1,5 @@
 pub mod Gathering
+pub mod Placing
 pub mod Products
 pub mod Evaluation
 pub mod Rising

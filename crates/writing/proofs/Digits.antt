@@ -1,15 +1,13 @@
 -- A number's digits: how many there are, and how a part is filled with them.
 -- Assumes nothing.
 use Prim.Native.Nat.{ℕ, zero, suc, ◌+◌, ◌-◌, ◌*◌, ◌/◌, ◌%◌, ◌^◌, ◌≤◌, ◌<◌}
-use mathlib.Core.Path.{◌≡◌, refl, sym, ◌∙◌, ap}
+use mathlib.Core.Path.{◌≡◌, sym, ◌∙◌, ap}
 use mathlib.Core.List.{List, [], ◌∷◌, ◌++◌, append_assoc, append-nil}
-use mathlib.Core.Logic.{⊎_elim}
-use native.Mathlib.Numerals.{add-one}
+use mathlib.Core.Logic.{◌⊎◌, inl, inr, ⊎_elim}
 use native.Mathlib.Nat.{pow-suc, one-le-pow, le-div_iff_mul-le}
 use native.Mathlib.Omega.{arith}
-use lib.Dec.{lit<}
 use lib.ListN.{length, take, drop, set, length-append, length-set}
-use lib.Seq.{length-take-le, drop-length, set_split, drop_at}
+use lib.Seq.{length-take-le, take_all, drop-length, set_split, drop_at}
 use Rattle.laws.proofs.Order.{lt_or_le}
 use Rattle.text.specs.Numbers.{digit_zero, decimal_of}
 use Rattle.text.proofs.Decimal.{tenth_below, one_digit, last_digit}
@@ -49,117 +47,76 @@ many_digits (suc j) n h =
     let e = one_more n (omega arith) in
     omega arith
 
--- four digits more than what is left of it, divided by 10,000
-four_more : (n : ℕ) → 10_000 ≤ n → length (decimal_of n) ≡ length (decimal_of (n / 10_000)) + 4
-four_more n h =
-    let one = one_more n (omega arith) in
-    let two = one_more (n / 10) (omega arith) in
-    let three = one_more (n / 10 / 10) (omega arith) in
-    let four = one_more (n / 10 / 10 / 10) (omega arith) in
-    let left : n / 10 / 10 / 10 / 10 ≡ n / 10_000 = omega arith in
-    rw (← left) (omega arith)
-
--- so many of the digits of n are counted, and those of rest are left
-pub record Counted (n count rest : ℕ) : Type 0 where
-  pub few : count < 20
-  pub whole : count + length (decimal_of rest) ≡ length (decimal_of n)
-
-pub counted_none : {n : ℕ} → Counted n 0 n
-counted_none {n} = record { few = lit< tt; whole = omega arith }
-
-module _ {n count rest : ℕ} (p : Counted n count rest) where
-  pub counted_next : n < 2 ^ 64 → 10_000 ≤ rest → Counted n (count + 4) (rest / 10_000)
-  counted_next h g =
-      let w = p.whole in
-      let f = four_more rest g in
-      let s = some_digit (rest / 10_000) in
-      let l = word_digits n h in
-      record { few = omega arith; whole = omega arith }
-
-  -- what is left has so many digits
-  left : (j : ℕ) → suc j ≤ length (decimal_of rest) → length (decimal_of rest) ≤ suc j → count + suc j ≡ length (decimal_of n)
-  left j h g =
-      let w = p.whole in
-      omega arith
-
-  pub counted_one : rest < 10 → count + 1 ≡ length (decimal_of n)
-  counted_one h = left 0 (some_digit rest) (few_digits_lem 0 rest h)
-
-  pub counted_two : 10 ≤ rest → rest < 100 → count + 2 ≡ length (decimal_of n)
-  counted_two h g = left 1 (many_digits 1 rest h) (few_digits_lem 1 rest g)
-
-  pub counted_three : 100 ≤ rest → rest < 1_000 → count + 3 ≡ length (decimal_of n)
-  counted_three h g = left 2 (many_digits 2 rest h) (few_digits_lem 2 rest g)
-
-  pub counted_four : 1_000 ≤ rest → rest < 10_000 → count + 4 ≡ length (decimal_of n)
-  counted_four h g = left 3 (many_digits 3 rest h) (few_digits_lem 3 rest g)
-
-pub width_short : {n count : ℕ} → count ≡ length (decimal_of n) → n < 2 ^ 64 → count ≤ 20
-width_short {n} {count} e h = let f = word_digits n h in omega arith
+-- a number between two powers of ten has as many digits as the power tells
+pub power_digits : (k n : ℕ) → 10 ^ k ≤ n → n < 10 * 10 ^ k → length (decimal_of n) ≡ k + 1
+power_digits k n h g =
+    let most = few_digits_lem k n (rw (pow-suc 10 k) (omega arith)) in
+    let least = many_digits k n h in
+    omega arith
 
 -- a number below ten has one digit
 pub length_one : (n : ℕ) → n < 10 → length (decimal_of n) ≡ 1
 length_one n h = ap length (one_digit n h)
 
--- in a part that is filled with the digits of n from the last on, those of rest are left, of which the last goes to a place
-pub record Spelled (d₀ : List ℕ) (n : ℕ) (d : List ℕ) (rest at : ℕ) : Type 0 where
-  pub long : length d ≡ length d₀
-  pub within : at < length d
-  pub place : length (decimal_of rest) ≡ at + 1
-  pub holds : decimal_of rest ++ drop (at + 1) d ≡ decimal_of n
+-- in a part that is filled with the digits of n from the last on, so many places are left for those of rest
+pub record Spelled (n : ℕ) (d : List ℕ) (rest left : ℕ) : Type 0 where
+  pub within : left ≤ length d
+  pub place : 1 ≤ left → length (decimal_of rest) ≡ left
+  pub holds : take left (decimal_of rest) ++ drop left d ≡ decimal_of n
 
-pub spelled_none : {d : List ℕ} {n : ℕ} → length d ≡ length (decimal_of n) → Spelled d n d n (length d - 1)
+pub spelled_none : {d : List ℕ} {n : ℕ} → length d ≡ length (decimal_of n) → Spelled n d n (length d)
 spelled_none {d} {n} e =
-    let s = some_digit n in
-    let last : length d - 1 + 1 ≡ length d = omega arith in
     record {
-      long = refl;
       within = omega arith;
-      place = omega arith;
-      holds = rw (last, drop-length d) (append-nil (decimal_of n));
+      place = λ h. sym e;
+      holds = rw (drop-length d, append-nil (take (length d) (decimal_of n))) (take_all (length d) (decimal_of n) (omega arith));
     }
 
-module _ {d₀ : List ℕ} {n : ℕ} {d : List ℕ} {rest at : ℕ} (p : Spelled d₀ n d rest at) where
-  -- a byte at its place, before what stands behind it
-  stored : (b : ℕ) → drop at (set d at b) ≡ (b ∷ []) ++ drop (at + 1) d
+module _ {n : ℕ} {d : List ℕ} {rest left : ℕ} (p : Spelled n d rest left) (some : 0 < left) where
+  -- the last of them gets the last digit, before what stands behind it,
+  stored : (b : ℕ) → drop (left - 1) (set d (left - 1) b) ≡ (b ∷ []) ++ drop left d
   stored b =
       let w = p.within in
-      rw (set_split d at b w, add-one at) (drop_at (take at d) (b ∷ drop (suc at) d) at (length-take-le at d (omega arith)))
+      let e : suc (left - 1) ≡ left = omega arith in
+      rw (set_split d (left - 1) b (omega arith), drop_at (take (left - 1) d) (b ∷ drop (suc (left - 1)) d) (left - 1) (length-take-le (left - 1) d (omega arith)), e)
 
-  module _ (h : 10 ≤ rest) where
-    further : length (decimal_of (rest / 10)) ≡ at
-    further =
-        let e = one_more rest h in
-        let s = p.place in
-        omega arith
+  -- and where there are several the others are those of a tenth.
+  last_of : (left ≡ 1) × (rest < 10) ⊎ (2 ≤ left) × (10 ≤ rest)
+  last_of =
+      let s = p.place (omega arith) in
+      ⊎_elim
+      (λ (l : rest < 10). let o = length_one rest l in inl (omega arith, l))
+      (λ (m : 10 ≤ rest). let o = one_more rest m in let t = some_digit (rest / 10) in inr (omega arith, m))
+      (lt_or_le rest 10)
 
-    pub spelled_inside : 1 ≤ at
-    spelled_inside =
-        let e = further in
-        let s = some_digit (rest / 10) in
-        omega arith
+  pub spelled_next : {b : ℕ} → b ≡ digit_zero + rest % 10 → Spelled n (set d (left - 1) b) (rest / 10) (left - 1)
+  spelled_next {b} e =
+      let w = p.within in
+      let s = p.place (omega arith) in
+      let l = length-set d (left - 1) b in
+      record {
+        within = omega arith;
+        place = λ h.
+            ⊎_elim
+            (λ (o : (left ≡ 1) × (rest < 10)). absurd (omega arith))
+            (λ (m : (2 ≤ left) × (10 ≤ rest)). let t = one_more rest m.1 in omega arith)
+            last_of;
+        holds =
+            rw (stored b)
+            (⊎_elim
+            (λ (o : (left ≡ 1) × (rest < 10)).
+            let none : left - 1 ≡ 0 = omega arith in
+            let digit : rest % 10 ≡ rest = omega arith in
+            rw (none, e, digit) (rw (take_all left (decimal_of rest) (omega arith), one_digit rest o.1) at p.holds))
+            (λ (m : (2 ≤ left) × (10 ≤ rest)).
+            let t = one_more rest m.1 in
+            rw (take_all (left - 1) (decimal_of (rest / 10)) (omega arith), ← append_assoc (decimal_of (rest / 10)) (b ∷ []) (drop left d), e, ← last_digit rest m.1)
+            (rw (take_all left (decimal_of rest) (omega arith)) at p.holds))
+            last_of);
+      }
 
-    pub spelled_next : {b : ℕ} → b ≡ digit_zero + rest % 10 → Spelled d₀ n (set d at b) (rest / 10) (at - 1)
-    spelled_next {b} e =
-        let i = spelled_inside in
-        let w = p.within in
-        let l = length-set d at b in
-        let here : at - 1 + 1 ≡ at = omega arith in
-        record {
-          long = l ∙ p.long;
-          within = omega arith;
-          place = further ∙ sym here;
-          holds =
-              rw (here, stored b, ← append_assoc (decimal_of (rest / 10)) (b ∷ []) (drop (at + 1) d), e, ← last_digit rest h)
-              p.holds;
-        }
-
-  pub spelled_all : {b : ℕ} → rest < 10 → b ≡ digit_zero + rest → set d at b ≡ decimal_of n
-  spelled_all {b} h e =
-      let o = ap length (one_digit rest h) in
-      let s = p.place in
-      let here : 0 ≡ at = omega arith in
-      rw (← here) ((rw (← here) at (stored b)) ∙ (rw (one_digit rest h, ← e, ← here) at p.holds))
+pub spelled_all : {n rest : ℕ} {d : List ℕ} → Spelled n d rest 0 → d ≡ decimal_of n
+spelled_all p = p.holds
 
 -- a number of one digit is stored in a buffer that has a place
 module _ {n place : ℕ} (d : List ℕ) (h : n < 10) (g : place < length d) where

@@ -1,5 +1,6 @@
 pub mod Writing
 pub mod Digits
-pub mod Copying
 pub mod Rest
+pub mod Adding
+pub mod Ended
 pub mod Words

@@ -1,5 +1,6 @@
 -- What writing and putting a text answer, and the buffer afterwards, where it is too short and where it is not.
 -- Assumes nothing.
+use Rattle.std.specs.Prelude.{Ok, Err}
 use Prim.Native.Nat.{ℕ, ◌≤◌, ◌<◌}
 use mathlib.Core.Path.{◌≡◌, sym, ◌∙◌}
 use mathlib.Core.Bool.{Bool, true, false}
@@ -10,7 +11,6 @@ use lib.ListN.{length, take, drop, length-append, length-drop}
 use lib.Seq.{length-take-le, take-append_seam, drop-append_seam}
 use borrow.Author.Tests.{lt-ltb, le-ltb, ltb-true, ltb-false}
 use Rattle.refusal.specs.declared.Refusal.TheVariants.{BufferTooShort}
-use Rattle.writing.specs.declared.Written.TheVariants.{Granted, Refused}
 use Rattle.writing.specs.Writing.{pasted, too_short, written_of, put_length, buffer_of}
 
 -- a text over the start of a buffer stands before what is behind it
@@ -28,7 +28,7 @@ module _ (d t : List ℕ) where
     long_told h = ltb-false (length d) (length t) (sym e ∙ h)
 
   module _ (h : length d < length t) where
-    pub refused_answer : Refused BufferTooShort ≡ written_of d t
+    pub refused_answer : Err BufferTooShort ≡ written_of d t
     unfolding written_of
     refused_answer = rw (lt-ltb (length d) (length t) h)
 
@@ -41,7 +41,7 @@ module _ (d t : List ℕ) where
     refused_buffer = rw (lt-ltb (length d) (length t) h)
 
   module _ (h : length t ≤ length d) where
-    pub granted_answer : Granted (length t) ≡ written_of d t
+    pub granted_answer : Ok (length t) ≡ written_of d t
     unfolding written_of
     granted_answer = rw (le-ltb (length d) (length t) h)
 
@@ -50,7 +50,7 @@ module _ (d t : List ℕ) where
     granted_length = rw (le-ltb (length d) (length t) h)
 
     -- with the length that putting the text answered
-    pub granted_put : {r : ℕ} → r ≡ put_length d t → Granted r ≡ written_of d t
+    pub granted_put : {r : ℕ} → r ≡ put_length d t → Ok r ≡ written_of d t
     granted_put e = rw (e, ← granted_length) granted_answer
 
     pub granted_buffer : pasted d 0 t ≡ buffer_of d t

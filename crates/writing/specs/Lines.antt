@@ -2,7 +2,6 @@
 -- Assumes nothing.
 use Rattle.std.specs.Prelude.{ℕ, List, [], ◌∷◌, ◌++◌, get_or}
 use Rattle.text.specs.Pieces.{line_feed}
-use Rattle.text.specs.Words.{rows_of}
 use Rattle.text.specs.Numbers.{decimal_of}
 
 -- a line: its key, its value, LF
@@ -13,6 +12,6 @@ line_with key value = key ++ value ++ (line_feed ∷ [])
 abbrev pub line_of : List ℕ → ℕ → List ℕ
 line_of key n = line_with key (decimal_of n)
 
--- the word at a place, counted from 0, of a list of words in rows of n bytes: nothing where there is none
-unfoldable pub word_at : ℕ → List ℕ → ℕ → List ℕ
-word_at n words k = get_or (rows_of n words) k []
+-- the word at a place, counted from 0, of a list of words: nothing where there is none
+unfoldable pub word_at : List (List ℕ) → ℕ → List ℕ
+word_at words k = get_or words k []

@@ -1,10 +1,9 @@
 -- Rules, "The numbers given back": writing a text into a lent buffer; the only refusal is 13, for a buffer that is shorter than the text.
 -- Assumes nothing.
-use Rattle.std.specs.Prelude.{ℕ, ◌+◌, Bool, cond, List, ◌++◌, ltb, length, take, drop}
+use Rattle.refusal.specs.declared.Refusal.{Refusal}
+use Rattle.std.specs.Prelude.{ℕ, ◌+◌, Bool, cond, List, ◌++◌, ltb, length, take, drop, Result, Ok, Err}
 use Rattle.refusal.specs.declared.Refusal.TheVariants.{BufferTooShort}
 use Rattle.refusal.specs.Refusal.{number_of, granted}
-use Rattle.writing.specs.declared.Written.{Written}
-use Rattle.writing.specs.declared.Written.TheVariants.{Granted, Refused}
 
 -- a buffer with a text written over it from a place on: what stands before that place, and what stands behind the text, is as it was
 unfoldable pub pasted : List ℕ → ℕ → List ℕ → List ℕ
@@ -15,8 +14,8 @@ abbrev pub too_short : List ℕ → List ℕ → Bool
 too_short buf text = ltb (length buf) (length text)
 
 -- what writing a text into a buffer answers: the text's length, or the refusal
-unfoldable pub written_of : List ℕ → List ℕ → Written
-written_of buf text = cond (too_short buf text) (Refused BufferTooShort) (Granted (length text))
+unfoldable pub written_of : List ℕ → List ℕ → Result ℕ Refusal
+written_of buf text = cond (too_short buf text) (Err BufferTooShort) (Ok (length text))
 
 -- what a call answers that puts a text into a buffer and refuses nothing: the text's length, or 0 where it does not fit
 unfoldable pub put_length : List ℕ → List ℕ → ℕ
@@ -27,6 +26,6 @@ unfoldable pub buffer_of : List ℕ → List ℕ → List ℕ
 buffer_of buf text = cond (too_short buf text) buf (pasted buf 0 text)
 
 -- the rules' number and value: a refusal's value is 0
-abbrev pub written_given : Written → ℕ × ℕ
-written_given (Granted n) = (granted, n)
-written_given (Refused why) = (number_of why, 0)
+abbrev pub written_given : Result ℕ Refusal → ℕ × ℕ
+written_given (Ok n) = (granted, n)
+written_given (Err why) = (number_of why, 0)

@@ -2,45 +2,28 @@
 // lent buffer.
 #![tactic(auto)]
 
-ghost use Rattle.std.specs.Prelude.{◌≡◌, ◌+◌, ◌≤◌, ◌<◌, length};
-ghost use Rattle.text.specs.Pieces.{space, before_of};
+ghost use Rattle.std.specs.Prelude.{◌≡◌, ◌+◌, ◌≤◌, ◌<◌, [], ◌∷◌, ◌++◌, length, map};
 ghost use Rattle.text.specs.Numbers.{digit_zero, decimal_of};
 ghost use Rattle.writing.specs.Writing.{put_length, buffer_of};
 ghost use Rattle.writing.specs.Lines.{word_at};
 
 use refusal::Refusal;
 
-// The length of the text that was written, or the refusal.
-#[derive(Clone, Copy)]
-pub enum Written {
-    Granted(usize),
-    Refused(Refusal),
-}
+mod writer;
 
-// How many digits n has: four for each time that it is divided by 10,000, and those of what is left.
-#[tactic(auto, using(crate::proofs::Digits::length_one))]
+pub use writer::Writer;
+
+// How many digits n has: one more than the tens that it is divided by, and one where it is 0.
+#[tactic(auto, using(crate::proofs::Digits::length_one, crate::proofs::Digits::power_digits))]
 pub fn width(n: u64) -> usize
     ensures { (result ≡ length (decimal_of n)) × (result ≤ 20) }
 {
-    let mut digits = 0;
-    let mut rest = n;
-    while 10_000 <= rest {
-        rest = rest / 10_000;
-        digits += 4;
-    }
-    if rest < 10 {
-        return digits + 1;
-    }
-    if rest < 100 {
-        return digits + 2;
-    }
-    if rest < 1_000 {
-        return digits + 3;
-    }
-    digits + 4
+    n.checked_ilog10().map_or(1, |k| k as usize + 1)
 }
 
-// Puts a text at the start of buf and answers its length, or 0 where buf is shorter, which then stays as it was.
+// Puts a text at the start of buf and answers its length, or 0 where buf is shorter, which then stays as it was: put_length says 0, of an
+// empty text too, and so there is no Option. get_mut in place of the test would lose to the proof what stands behind the part.
+#[tactic(auto, using(crate::proofs::Writing::refused_length, crate::proofs::Writing::refused_buffer, crate::proofs::Writing::part_buffer, crate::proofs::Writing::granted_length))]
 pub fn put(s: &[u8], buf: &mut [u8]) -> usize
     ensures value { result ≡ put_length buf.old s.now }
     ensures buf_after { buf.new ≡ buffer_of buf.old s.now }
@@ -48,65 +31,30 @@ pub fn put(s: &[u8], buf: &mut [u8]) -> usize
     if buf.len() < s.len() {
         return 0;
     }
-    let mut i = 0;
-    while i < s.len() {
-        buf[i] = s[i];
-        i += 1;
-    }
+    buf[..s.len()].copy_from_slice(s);
     s.len()
 }
 
-// The row at place k of a list, counted from 0: nothing where there is none. The list has a row of so many bytes for each word, filled
-// up with spaces.
-fn row(words: &[u8], width: usize, k: usize) -> &[u8]
-    ensures { before_of space result.now ≡ word_at width words.now k }
+// The word at place k of a list, counted from 0: nothing where there is none.
+fn word<'a>(words: &[&'a [u8]], k: usize) -> &'a [u8]
+    ensures { result.now ≡ word_at (map (λ w. w.now) words.now) k }
 {
-    if width < 1 {
-        return &words[0..0];
-    }
-    if words.len() / width <= k {
-        return &words[0..0];
-    }
-    let from = k * width;
-    &words[from..from + width]
+    words.get(k).copied().unwrap_or(b"")
 }
 
-// The length of the word at place k of a list: it stands in its row before the first space.
-pub fn word_size(words: &[u8], width: usize, k: usize) -> usize
-    ensures { result ≡ length (word_at width words.now k) }
+// The length of that word.
+pub fn word_size(words: &[&[u8]], k: usize) -> usize
+    ensures { result ≡ length (word_at (map (λ w. w.now) words.now) k) }
 {
-    text::next(row(words, width, k), b' ', 0)
+    word(words, k).len()
 }
 
-// Puts that word at the start of buf. Where its whole row would fit, no length is worked out first.
-pub fn put_word(words: &[u8], width: usize, k: usize, buf: &mut [u8]) -> usize
-    ensures value { result ≡ put_length buf.old (word_at width words.now k) }
-    ensures buf_after { buf.new ≡ buffer_of buf.old (word_at width words.now k) }
+// Puts that word at the start of buf.
+pub fn put_word(words: &[&[u8]], k: usize, buf: &mut [u8]) -> usize
+    ensures value { result ≡ put_length buf.old (word_at (map (λ w. w.now) words.now) k) }
+    ensures buf_after { buf.new ≡ buffer_of buf.old (word_at (map (λ w. w.now) words.now) k) }
 {
-    let row = row(words, width, k);
-    if row.len() <= buf.len() {
-        return put_row(row, buf);
-    }
-    let size = text::next(row, b' ', 0);
-    put(&row[..size], buf)
-}
-
-// Puts the word of a row that would fit, byte by byte up to the first space.
-fn put_row(row: &[u8], buf: &mut [u8]) -> usize
-    requires { length row.now ≤ length buf.old }
-    ensures value { result ≡ put_length buf.old (before_of space row.now) }
-    ensures buf_after { buf.new ≡ buffer_of buf.old (before_of space row.now) }
-{
-    let mut at = 0;
-    while at < row.len() {
-        let byte = row[at];
-        if byte == b' ' {
-            return at;
-        }
-        buf[at] = byte;
-        at += 1;
-    }
-    at
+    put(word(words, k), buf)
 }
 
 // The same for the digits of n: how many there are is worked out first, and they fill the part of buf that is lent on.
@@ -128,19 +76,50 @@ pub fn put_number(n: u64, buf: &mut [u8]) -> usize
     digits
 }
 
-// Fills a part that is as long as the digits of n with them, from the last to the first.
+// A key, a number and the byte that ends it, in one.
+#[tactic(auto, using(crate::proofs::Ended::no_room_length, crate::proofs::Ended::no_room_buffer, crate::proofs::Ended::ended_length, crate::proofs::Ended::ended_part))]
+fn put_ended_number(key: &[u8], n: u64, end: u8, buf: &mut [u8]) -> usize
+    ensures value { result ≡ put_length buf.old (key.now ++ decimal_of n ++ (end ∷ [])) }
+    ensures buf_after { buf.new ≡ buffer_of buf.old (key.now ++ decimal_of n ++ (end ∷ [])) }
+{
+    let last = key.len() + width(n);
+    if buf.len() <= last {
+        return 0;
+    }
+    buf[..key.len()].copy_from_slice(key);
+    fill(n, &mut buf[key.len()..last]);
+    buf[last] = end;
+    last + 1
+}
+
+// A key, the word at place k of a list and the byte that ends it.
+#[tactic(auto, using(crate::proofs::Ended::no_room_length, crate::proofs::Ended::no_room_buffer, crate::proofs::Ended::ended_length, crate::proofs::Ended::ended_part))]
+fn put_ended_word(key: &[u8], words: &[&[u8]], k: usize, end: u8, buf: &mut [u8]) -> usize
+    ensures value { result ≡ put_length buf.old (key.now ++ word_at (map (λ w. w.now) words.now) k ++ (end ∷ [])) }
+    ensures buf_after { buf.new ≡ buffer_of buf.old (key.now ++ word_at (map (λ w. w.now) words.now) k ++ (end ∷ [])) }
+{
+    let word = word(words, k);
+    let last = key.len() + word.len();
+    if buf.len() <= last {
+        return 0;
+    }
+    buf[..key.len()].copy_from_slice(key);
+    buf[key.len()..last].copy_from_slice(word);
+    buf[last] = end;
+    last + 1
+}
+
+// Fills a part that is as long as the digits of n with them, from the last to the first. write! wants memory or a writer that can refuse,
+// and iter_mut().rev() does not tell which place holds what.
 fn fill(n: u64, part: &mut [u8])
     requires { length part.old ≡ length (decimal_of n) }
     ensures { part.new ≡ decimal_of n }
 {
-    let mut at = part.len() - 1;
     let mut rest = n;
-    while 10 <= rest {
+    for at in (0..part.len()).rev() {
         part[at] = digit(rest % 10);
         rest = rest / 10;
-        at -= 1;
     }
-    part[at] = digit(rest);
 }
 
 // The digit of a number below ten.

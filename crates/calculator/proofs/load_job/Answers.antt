@@ -1,11 +1,7 @@
--- `calculator::load_job` meets its contract: 9 for an amount, then the load.
+-- `calculator::load_job` meets its contract: what refuses the load refuses the job.
 -- Assumes nothing.
-use borrow.Author.Rules.{rules}
-use Rattle.calculator.proofs.Finding.{load_amount, load_worked}
+use Rattle.calculator.proofs.Finding.{load_refused}
 use Rattle.calculator.proofs.load_job.Goals as goal
 
-pub returns-then-job-ne0 : goal.returns-then-job-ne0
-returns-then-job-ne0 c = search (load_amount, rules)
-
-pub returns : goal.returns
-returns c = search (load_worked, rules)
+pub returns-in_err-load : goal.returns-in_err-load
+returns-in_err-load c = load_refused _ _ c.if-job-ne0.false c.load.ensures c.in_err-load.was c.from_residual.ensures.1

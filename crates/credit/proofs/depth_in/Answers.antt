@@ -4,5 +4,5 @@ use mathlib.Core.Path.{sym, ap}
 use Rattle.credit.specs.Inner.{depth_in}
 use Rattle.credit.proofs.depth_in.Goals as goal
 
-pub returns-in-Refused : goal.returns-in-Refused
-returns-in-Refused c = ap depth_in (sym c.in-Refused.is)
+pub returns-in-Err : goal.returns-in-Err
+returns-in-Err c = ap depth_in (sym c.in-Err.is)

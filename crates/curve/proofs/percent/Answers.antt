@@ -1,23 +1,16 @@
 -- `curve::percent` meets its contract: an admitted sheet is ready for every depth, and the depth is tried last.
 -- Assumes nothing.
-use Rattle.curve.proofs.Answering.{admitted_ready, admitted_depths, percent_granted, percent_deep, percent_bad, percent_refused}
-use borrow.Author.Rules.{rules}
+use Rattle.std.proofs.lemmas.Result.{err_from_is_err_and}
+use Rattle.curve.proofs.Answering.{percent_refused, percent_deep, given_percent}
 use Rattle.curve.proofs.percent.Goals as goal
 
-pub percent_at-requires : goal.percent_at-requires
-percent_at-requires c = search (admitted_ready, rules)
+pub returns-in_err-admitted : goal.returns-in_err-admitted
+returns-in_err-admitted c =
+    let p = err_from_is_err_and c.from_residual.result c.from_residual.ensures.1 in
+    rw (p.1, p.2) (percent_refused _ _ _ _ _ c.in_err-admitted.ensures _)
 
-pub basis_at-requires : goal.basis_at-requires
-basis_at-requires c = search (admitted_depths, rules)
+pub returns-then-depth-gt-HIGHEST : goal.returns-then-depth-gt-HIGHEST
+returns-then-depth-gt-HIGHEST c = percent_deep _ _ _ _ _ c.in_ok-admitted.ensures.1 _ c.if-depth-gt-HIGHEST.true
 
-pub returns-then-depth-le-HIGHEST : goal.returns-then-depth-le-HIGHEST
-returns-then-depth-le-HIGHEST c = search (percent_granted, rules)
-
-pub returns-else-depth-le-HIGHEST : goal.returns-else-depth-le-HIGHEST
-returns-else-depth-le-HIGHEST c = search (percent_deep, rules)
-
-pub returns-in-BadSheet : goal.returns-in-BadSheet
-returns-in-BadSheet c = search (percent_bad, rules)
-
-pub returns-in-Refused : goal.returns-in-Refused
-returns-in-Refused c = search (percent_refused, rules)
+pub returns : goal.returns
+returns c = given_percent c.in_ok-admitted.admitted _ _ _ c.in_ok-admitted.ensures _ c.if-depth-gt-HIGHEST.false c.percent_at.ensures c.basis_at.ensures

@@ -1,27 +1,21 @@
 -- `curve::reach` meets its contract: an admitted sheet is ready for every depth, and the least depth is on the grid where the target is reached.
 -- Assumes nothing.
-use Rattle.curve.proofs.Answering.{admitted_ready, admitted_depths, reach_high, reach_bad, reach_refused}
-use Rattle.curve.proofs.Searching.{found_reached, found_short}
-use borrow.Author.Rules.{rules}
+use Rattle.std.proofs.lemmas.Result.{err_from_is_err_and}
+use Rattle.curve.proofs.Answering.{reach_high, reach_refused, given_depth, given_none}
 use Rattle.curve.proofs.reach.Goals as goal
 
+pub returns-in_err-admitted : goal.returns-in_err-admitted
+returns-in_err-admitted c =
+    let p = err_from_is_err_and c.from_residual.result c.from_residual.ensures.1 in
+    rw (p.1, p.2) (reach_refused _ _ _ _ _ c.in_err-admitted.ensures _)
+
 pub returns-then-target-gt-MOST_PERCENT : goal.returns-then-target-gt-MOST_PERCENT
-returns-then-target-gt-MOST_PERCENT c = search (reach_high, rules)
+returns-then-target-gt-MOST_PERCENT c = reach_high _ _ _ _ _ c.in_ok-admitted.ensures.1 _ c.if-target-gt-MOST_PERCENT.true
 
-pub least-found-requires : goal.least-found-requires
-least-found-requires c = search (admitted_ready, rules)
+pub returns-in-Some : goal.returns-in-Some
+returns-in-Some c =
+    given_depth c.in_ok-admitted.admitted _ _ _ c.in_ok-admitted.ensures _ c.if-target-gt-MOST_PERCENT.false c.in-Some.ensures c.basis_at.ensures
 
-pub basis_at-requires : goal.basis_at-requires
-basis_at-requires c = search (admitted_depths, rules)
-
-pub returns-then-depth-le-HIGHEST : goal.returns-then-depth-le-HIGHEST
-returns-then-depth-le-HIGHEST c = search (found_reached, rules)
-
-pub returns-else-depth-le-HIGHEST : goal.returns-else-depth-le-HIGHEST
-returns-else-depth-le-HIGHEST c = search (found_short, rules)
-
-pub returns-in-BadSheet : goal.returns-in-BadSheet
-returns-in-BadSheet c = search (reach_bad, rules)
-
-pub returns-in-Refused : goal.returns-in-Refused
-returns-in-Refused c = search (reach_refused, rules)
+pub returns-in-None : goal.returns-in-None
+returns-in-None c =
+    given_none c.in_ok-admitted.admitted _ _ _ c.in_ok-admitted.ensures _ c.if-target-gt-MOST_PERCENT.false c.in-None.ensures

@@ -1,16 +1,13 @@
--- `published::percent` meets its contract: the place is that of the practice's sheet, or there is none.
+-- `published::percent` meets its contract: the sheet is that of the practice, or there is none.
 -- Assumes nothing.
-use Rattle.published.proofs.Answering.{stands, percent_found, percent_none}
-use borrow.Author.Rules.{rules}
+use Rattle.std.proofs.lemmas.Result.{err_from_is_err_and}
+use Rattle.published.proofs.Answering.{percent_found, percent_none}
 use Rattle.published.proofs.percent.Goals as goal
 
-pub percent_in-requires : goal.percent_in-requires
-percent_in-requires c = search (stands, rules)
+pub returns-in_err-sheet : goal.returns-in_err-sheet
+returns-in_err-sheet c =
+    let p = err_from_is_err_and c.from_residual.result c.from_residual.ensures.1 in
+    rw (p.1, p.2) (percent_none _ _ _ _ c.in_err-sheet.ensures _)
 
-pub returns-in-At : goal.returns-in-At
-returns-in-At c =
-    percent_found _ _ _ _ c.find-found.ensures c.in-At.is
-    c.sheets-all.ensures _ c.percent_in.ensures
-
-pub returns-in-Refused : goal.returns-in-Refused
-returns-in-Refused c = search (percent_none, rules)
+pub returns : goal.returns
+returns c = percent_found _ _ _ _ c.in_ok-sheet.field-0 c.in_ok-sheet.ensures _ c.percent.ensures

@@ -3,8 +3,8 @@
 use Rattle.review.proofs.Comparing.{right_part, wrong_part}
 use Rattle.review.proofs.wrong_line.Goals as goal
 
-pub returns-in-Right : goal.returns-in-Right
-returns-in-Right c = right_part _ _ _ c.check-found.ensures c.in-Right.is c.part.ensures
+pub returns-in-Ok : goal.returns-in-Ok
+returns-in-Ok c = right_part _ _ _ c.check.ensures c.in-Ok.is c.part.ensures
 
-pub returns-in-Wrong : goal.returns-in-Wrong
-returns-in-Wrong c = wrong_part _ _ _ c.check-found.ensures c.in-Wrong.is c.part-in-Wrong.ensures
+pub returns-in-Err : goal.returns-in-Err
+returns-in-Err c = wrong_part _ _ _ c.check.ensures c.in-Err.is c.part-in-Err.ensures

@@ -5,10 +5,10 @@ use Rattle.sagecruet.proofs.Checks.{right_told, wrong_told}
 use Rattle.sagecruet.proofs.sagecruet_check.Goals as goal
 
 pub overflow_sub-result : goal.overflow_sub-result
-overflow_sub-result c = told_onward _ _ c.check-found.ensures c.in-Wrong.is
+overflow_sub-result c = told_onward _ _ c.check.ensures c.in-Err.is
 
-pub returns-in-Right : goal.returns-in-Right
-returns-in-Right c = right_told _ _ c.check-found.ensures c.in-Right.is
+pub returns-in-Ok : goal.returns-in-Ok
+returns-in-Ok c = right_told _ _ c.check.ensures c.in-Ok.is
 
-pub returns-in-Wrong : goal.returns-in-Wrong
-returns-in-Wrong c = wrong_told _ _ c.check-found.ensures c.in-Wrong.is
+pub returns-in-Err : goal.returns-in-Err
+returns-in-Err c = wrong_told _ _ c.check.ensures c.in-Err.is

@@ -1,17 +1,19 @@
--- `text::agreed` meets its contract: what the texts have in common goes on behind the bytes that were passed, and ends where they differ or one of them does.
+-- `text::agreed` meets its contract: the pairs of bytes that are the same from the start on are what the texts have in common.
 -- Assumes nothing.
+use Prim.Native.Nat.{ℕ}
+use lib.Dec.{eqb}
 use borrow.Author.Rules.{rules}
-use Rattle.text.proofs.Alike.{agreed_none, agreed_not, agreed_next, agreed_all}
+use borrow.Author.Tests.{tests}
+use Rattle.std.proofs.lemmas.Iterator.{YieldsList-from_slice, YieldsList-from_zip}
+use Rattle.std.proofs.lemmas.Iterator.Search.{YieldsList-from_take_while}
+use Rattle.std.proofs.lemmas.Iterator.Consumers.{count_from_yields_List, YieldsList-at}
+use Rattle.text.proofs.Alike.{agreed_taken}
 use Rattle.text.proofs.agreed.Goals as goal
 
-pub loop-i-init : goal.loop-i-init
-loop-i-init c = search (agreed_none, rules)
-
-pub returns-then-t-i : goal.returns-then-t-i
-returns-then-t-i c = search (agreed_not, rules)
-
-pub loop-i-preserved : goal.loop-i-preserved
-loop-i-preserved c = search (agreed_next, rules)
-
 pub returns : goal.returns
-returns c = search (agreed_all, rules)
+returns c =
+    agreed_taken c.args.s.now c.args.t.now
+    (count_from_yields_List c.take_while.result _ c.count.ensures.ran
+    (YieldsList-from_take_while _ (λ (p : ℕ × ℕ). eqb p.0 p.1)
+    (YieldsList-at (c.take_while.ensures.source) (YieldsList-from_zip (YieldsList-from_slice c.args.s.now (cc)) (YieldsList-from_slice c.args.t.now (cc))))
+    c.take_while.ensures.closure c.take_while.ensures.done (λ x b q k. search (rules, tests))))

@@ -1,17 +1,14 @@
--- `text::first` meets its contract: the bytes that were passed are none of them b, so the first b of the rest is that of the whole.
+-- `text::first` meets its contract: what the library's search finds is the place of the first b.
 -- Assumes nothing.
+use lib.Dec.{eqb}
 use borrow.Author.Rules.{rules}
-use Rattle.text.proofs.Splitting.{passed_none, passed_found, passed_next, passed_all}
+use borrow.Author.Tests.{tests}
+use Rattle.std.proofs.lemmas.Iterator.{YieldsList-from_slice}
+use Rattle.std.proofs.lemmas.Iterator.Search.{position_from_yields_List}
+use Rattle.text.proofs.Splitting.{first_found}
 use Rattle.text.proofs.first.Goals as goal
 
-pub loop-i-init : goal.loop-i-init
-loop-i-init c = passed_none
-
-pub returns-then-s-i : goal.returns-then-s-i
-returns-then-s-i c = search (passed_found, rules)
-
-pub loop-i-preserved : goal.loop-i-preserved
-loop-i-preserved c = search (passed_next, rules)
-
 pub returns : goal.returns
-returns c = search (passed_all, rules)
+returns c =
+    first_found c.args.b c.args.s.now c.unwrap_or.ensures
+    (position_from_yields_List (λ x. eqb x c.args.b) _ _ c.position.result c.position.ensures.ran (YieldsList-from_slice c.args.s.now (cc)) (λ x b q k. search (rules, tests)))

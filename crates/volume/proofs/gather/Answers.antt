@@ -7,8 +7,8 @@ use Rattle.volume.proofs.gather.Goals as goal
 pub six_areas-requires : goal.six_areas-requires
 six_areas-requires c = search (fine_known, rules)
 
-pub returns-in-Granted : goal.returns-in-Granted
-returns-in-Granted c = search (gather_granted, rules)
+pub returns-in-Ok : goal.returns-in-Ok
+returns-in-Ok c = search (gather_granted, rules)
 
-pub returns-in-Refused : goal.returns-in-Refused
-returns-in-Refused c = search (gather_refused, rules)
+pub returns-in-Err : goal.returns-in-Err
+returns-in-Err c = search (gather_refused, rules)

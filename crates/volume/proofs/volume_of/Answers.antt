@@ -1,7 +1,7 @@
 -- `volume::volume_of` meets its contract: the tests that led to each answer are the definition's.
 -- Assumes nothing.
-use borrow.Author.Rules.{rules}
-use Rattle.volume.proofs.Answered.{six_known, volume_crowded, volume_off_grid, volume_past, volume_granted}
+use Rattle.std.proofs.Common.{rules}
+use Rattle.volume.proofs.Answered.{volume_crowded, volume_off_grid, volume_past, volume_granted}
 use Rattle.volume.proofs.volume_of.Goals as goal
 
 pub returns-then-not-within_limit : goal.returns-then-not-within_limit
@@ -10,14 +10,8 @@ returns-then-not-within_limit c = search (volume_crowded, rules)
 pub returns-then-depth-gt-HIGHEST : goal.returns-then-depth-gt-HIGHEST
 returns-then-depth-gt-HIGHEST c = search (volume_off_grid, rules)
 
-pub within_largest-requires : goal.within_largest-requires
-within_largest-requires c = record { sheet_value = search rules; six = search (six_known, rules) }
-
 pub returns-then-not-within_largest : goal.returns-then-not-within_largest
 returns-then-not-within_largest c = search (volume_past, rules)
-
-pub volume_at-requires : goal.volume_at-requires
-volume_at-requires c = record { on_sheet = record { constant = search rules; grid = search rules }; six = search (six_known, rules) }
 
 pub returns : goal.returns
 returns c = search (volume_granted, rules)

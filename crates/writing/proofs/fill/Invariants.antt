@@ -3,8 +3,5 @@
 use Rattle.writing.proofs.Digits.{Spelled}
 use Rattle.writing.proofs.fill.Given as goal
 
-abbrev pub invariant-loop-rest : goal.invariant-loop-rest
-invariant-loop-rest l = Spelled l.initial.part l.n l.part l.rest l.at
-
-abbrev pub decreases-loop-rest : goal.decreases-loop-rest
-decreases-loop-rest l = l.rest
+abbrev pub invariant-loop-at : goal.invariant-loop-at
+invariant-loop-at l = Spelled l.n l.part l.rest l.at

@@ -1,29 +1,73 @@
 -- `job::head::read_head` meets its contract: each of the six lines is read behind the one before it.
 -- Assumes nothing.
-use mathlib.Core.Path.{refl}
-use Rattle.text.specs.Part.{part_of}
-use Rattle.text.specs.Pieces.{line_feed, index_of, pieces, joined}
-use Rattle.text.specs.Words.{rows_from, rows_of}
-use Rattle.job.proofs.Fields.{word_within}
-use Rattle.job.proofs.Heads.{practice_line, nutrient_line, mode_line, rate_line, task_line, amount_line, head_read}
+use Rattle.text.specs.Pieces.{pieces, joined}
+use Rattle.job.proofs.Heads.{head_practice, head_nutrient, head_mode, head_rate, head_task, head_amount, head_reads}
 use Rattle.job.proofs.head.read_head.Goals as goal
 
-pub judged-requires : goal.judged-requires
-unfolding rows_of rows_from pieces joined part_of index_of
-judged-requires c = (
-  word_within _ line_feed _ _ 2 c.word-nutrient.ensures refl,
-  word_within _ line_feed _ _ 2 c.word-mode.ensures refl,
-  word_within _ line_feed _ _ 3 c.word-task.ensures refl,
-)
+pub returns-in_err-practice : goal.returns-in_err-practice
+unfolding pieces joined
+returns-in_err-practice c =
+    head_practice _
+    c.malformed.result c.behind-at.ensures c.word-read.ensures c.ok_or.ensures.value
+    c.malformed.ensures c.in_err-practice.was c.from_residual.ensures.1
+
+pub returns-in_err-nutrient : goal.returns-in_err-nutrient
+unfolding pieces joined
+returns-in_err-nutrient c =
+    head_nutrient _
+    c.malformed.result c.behind-at.ensures c.word-read.ensures c.ok_or.ensures.value c.in_ok-practice.was
+    c.malformed-2.result c.behind-at-2.ensures c.case-read.ensures c.ok_or-2.ensures.value
+    c.malformed-2.ensures c.in_err-nutrient.was c.from_residual-in_err-nutrient.ensures.1
+
+pub returns-in_err-mode : goal.returns-in_err-mode
+unfolding pieces joined
+returns-in_err-mode c =
+    head_mode _
+    c.malformed.result c.behind-at.ensures c.word-read.ensures c.ok_or.ensures.value c.in_ok-practice.was
+    c.malformed-2.result c.behind-at-2.ensures c.case-read.ensures c.ok_or-2.ensures.value c.in_ok-nutrient.was
+    c.malformed-3.result c.behind-at-3.ensures c.case-read-2.ensures c.ok_or-3.ensures.value
+    c.malformed-3.ensures c.in_err-mode.was c.from_residual-in_err-mode.ensures.1
+
+pub returns-in_err-rate : goal.returns-in_err-rate
+unfolding pieces joined
+returns-in_err-rate c =
+    head_rate _
+    c.malformed.result c.behind-at.ensures c.word-read.ensures c.ok_or.ensures.value c.in_ok-practice.was
+    c.malformed-2.result c.behind-at-2.ensures c.case-read.ensures c.ok_or-2.ensures.value c.in_ok-nutrient.was
+    c.malformed-3.result c.behind-at-3.ensures c.case-read-2.ensures c.ok_or-3.ensures.value c.in_ok-mode.was
+    c.malformed-4.result c.behind-at-4.ensures c.number-read.ensures c.ok_or-4.ensures.value
+    c.malformed-4.ensures c.in_err-rate.was c.from_residual-in_err-rate.ensures.1
+
+pub returns-in_err-task : goal.returns-in_err-task
+unfolding pieces joined
+returns-in_err-task c =
+    head_task _
+    c.malformed.result c.behind-at.ensures c.word-read.ensures c.ok_or.ensures.value c.in_ok-practice.was
+    c.malformed-2.result c.behind-at-2.ensures c.case-read.ensures c.ok_or-2.ensures.value c.in_ok-nutrient.was
+    c.malformed-3.result c.behind-at-3.ensures c.case-read-2.ensures c.ok_or-3.ensures.value c.in_ok-mode.was
+    c.malformed-4.result c.behind-at-4.ensures c.number-read.ensures c.ok_or-4.ensures.value c.in_ok-rate.was
+    c.malformed-5.result c.behind-at-5.ensures c.case-read-3.ensures c.ok_or-5.ensures.value
+    c.malformed-5.ensures c.in_err-task.was c.from_residual-in_err-task.ensures.1
+
+pub returns-in_err-amount : goal.returns-in_err-amount
+unfolding pieces joined
+returns-in_err-amount c =
+    head_amount _
+    c.malformed.result c.behind-at.ensures c.word-read.ensures c.ok_or.ensures.value c.in_ok-practice.was
+    c.malformed-2.result c.behind-at-2.ensures c.case-read.ensures c.ok_or-2.ensures.value c.in_ok-nutrient.was
+    c.malformed-3.result c.behind-at-3.ensures c.case-read-2.ensures c.ok_or-3.ensures.value c.in_ok-mode.was
+    c.malformed-4.result c.behind-at-4.ensures c.number-read.ensures c.ok_or-4.ensures.value c.in_ok-rate.was
+    c.malformed-5.result c.behind-at-5.ensures c.case-read-3.ensures c.ok_or-5.ensures.value c.in_ok-task.was
+    c.malformed-6.result c.behind-at-6.ensures c.number-read-2.ensures c.ok_or-6.ensures.value
+    c.malformed-6.ensures c.in_err-amount.was c.from_residual-in_err-amount.ensures.1
 
 pub returns : goal.returns
-unfolding rows_of rows_from pieces joined part_of index_of
+unfolding pieces joined
 returns c =
-    head_read _
-    (practice_line _ _ c.word-practice.ensures)
-    (nutrient_line _ _ c.word-nutrient.ensures)
-    (mode_line _ _ c.word-mode.ensures)
-    (rate_line _ _ c.number-rate.ensures)
-    (task_line _ _ c.word-task.ensures)
-    (amount_line _ _ c.number-amount.ensures)
-    c.judged.ensures
+    head_reads _
+    c.malformed.result c.behind-at.ensures c.word-read.ensures c.ok_or.ensures.value c.in_ok-practice.was
+    c.malformed-2.result c.behind-at-2.ensures c.case-read.ensures c.ok_or-2.ensures.value c.in_ok-nutrient.was
+    c.malformed-3.result c.behind-at-3.ensures c.case-read-2.ensures c.ok_or-3.ensures.value c.in_ok-mode.was
+    c.malformed-4.result c.behind-at-4.ensures c.number-read.ensures c.ok_or-4.ensures.value c.in_ok-rate.was
+    c.malformed-5.result c.behind-at-5.ensures c.case-read-3.ensures c.ok_or-5.ensures.value c.in_ok-task.was
+    c.malformed-6.result c.behind-at-6.ensures c.number-read-2.ensures c.ok_or-6.ensures.value c.in_ok-amount.was
