@@ -104,8 +104,17 @@ pub sheet_text : (list place : ℕ) → answer_text (Err (Refused refused.UnfitS
 unfolding answer_text
 sheet_text list place = refl
 
--- No text of an outcome in memory is longer than the longest.
+-- The numbers of an outcome in memory have 64 bits, and no text of it is longer than the longest.
 module _ {o : Outcome} where
+  pub granted_wide : {f : Figures} → o ≡ Ok f → Wide (Ok f) → Wide o
+  granted_wide e w = rw e w
+
+  pub refused_wide : {why : Refusal} {k : ℕ} → o ≡ Err (Refused why k) → k < 2 ^ 64 → Wide o
+  refused_wide e h = rw e (record { line = h; load = lit< tt; depth = lit< tt; percent = lit< tt; volume = lit< tt; removed = lit< tt })
+
+  pub sheet_wide : {list place : ℕ} → o ≡ Err (BadSheet list place) → Wide o
+  sheet_wide e = rw e (record { line = lit< tt; load = lit< tt; depth = lit< tt; percent = lit< tt; volume = lit< tt; removed = lit< tt })
+
   pub granted_never_longer : {f : Figures} → o ≡ Ok f → Wide (Ok f) → length (answer_text o) ≤ longest
   granted_never_longer {f} e w = rw e (granted_longest f w)
 

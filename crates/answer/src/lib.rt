@@ -8,6 +8,7 @@ ghost use Rattle.writing.specs.Lines.{line_with};
 ghost use Rattle.writing.specs.Writer.{so_far, added, all_added};
 ghost use Rattle.answer.specs.Lines.{basis_word, answer_text, longest};
 ghost use Rattle.answer.specs.Outcomes.{outside, failure_of};
+ghost use Rattle.answer.specs.Promises.{Wide};
 ghost use Rattle.answer.specs.Inner.{lines_of};
 
 use credit::Figures;
@@ -62,12 +63,13 @@ pub fn room() -> usize
     LONGEST
 }
 
-// Writes the text of an outcome at the start of buf, refused 13 where buf is shorter; a text of an outcome in memory, whose numbers have
-// 64 bits, is never longer than the longest.
+// Writes the text of an outcome at the start of buf, refused 13 where buf is shorter; the numbers of an outcome in memory have 64 bits,
+// and so its text is never longer than the longest.
 #[tactic(auto, using(writing::proofs::Writing::long_told))]
 pub fn write(outcome: Result<Figures, Failure>, buf: &mut [u8]) -> Result<usize, Refusal>
     ensures value { result ≡ written_of buf.old (answer_text outcome) }
     ensures buf_after { buf.new ≡ buffer_of buf.old (answer_text outcome) }
+    ensures wide { Wide outcome }
     ensures never_longer { length (answer_text outcome) ≤ longest }
 {
     if too_short(outcome, buf.len()) {
@@ -77,9 +79,10 @@ pub fn write(outcome: Result<Figures, Failure>, buf: &mut [u8]) -> Result<usize,
 }
 
 // Whether so many bytes are too few for the text of an outcome.
-#[tactic(auto, using(crate::proofs::Texts::granted_never_longer, crate::proofs::Texts::refused_never_longer, crate::proofs::Texts::sheet_never_longer), unfolding(crate::specs::Lines::answer_text))]
+#[tactic(auto, using(crate::proofs::Texts::granted_wide, crate::proofs::Texts::refused_wide, crate::proofs::Texts::sheet_wide, crate::proofs::Texts::granted_never_longer, crate::proofs::Texts::refused_never_longer, crate::proofs::Texts::sheet_never_longer), unfolding(crate::specs::Lines::answer_text))]
 fn too_short(outcome: Result<Figures, Failure>, len: usize) -> bool
     ensures value { result ≡ ltb len (length (answer_text outcome)) }
+    ensures wide { Wide outcome }
     ensures never_longer { length (answer_text outcome) ≤ longest }
 {
     match outcome {

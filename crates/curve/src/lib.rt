@@ -228,6 +228,7 @@ impl Spot<'_> {
 
     // The exact percent by the line between the curves of two rates.
     #[tactic(auto, unfolding(crate::specs::Curve::exact_in))]
+    #[inline(always)]
     fn by_two(self, j: usize, slow: Rate, fast: Rate, rate: Rate) -> Fraction
         requires { Between self.sheet.rates.now j slow.0 fast.0 rate.0 }
         ensures { result ≡ exact_in self.entry.sheet.depths.now self.entry.sheet.percents.now (Curves.Two j slow fast rate) self.entry.k self.entry.x.0 }
@@ -265,8 +266,11 @@ struct Admitted<'a> {
     ghost chosen: { curves ≡ curves_of sheet.rates.now mode rate.0 } by { Coded-set curves-code curves (curves_of sheet.rates.now mode rate.0) },
 }
 
+// What each of the eight trials of `least` calls is inlined, `Spot::by_two` too, and so is the admission: an admitted sheet that is passed
+// by value would be copied at each trial, and how long its lists are at most would no longer be known there.
 impl<'a> Admitted<'a> {
     // Tries 5, 6 and 7.
+    #[inline(always)]
     fn admit(sheet: Sheet<'a>, mode: Mode, rate: Rate) -> Result<Admitted<'a>, SheetError>
         ensures { MatchResult result (λ admitted. (admitted.sheet ≡ sheet.entry) × (Ok admitted.curves ≡ admission_of sheet.entry.depths.now sheet.entry.rates.now sheet.entry.percents.now mode rate.0)) (λ error. Err error ≡ admission_of sheet.entry.depths.now sheet.entry.rates.now sheet.entry.percents.now mode rate.0) }
     {
@@ -300,6 +304,7 @@ impl<'a> Admitted<'a> {
     }
 
     // The exact percent at a depth.
+    #[inline(always)]
     fn exact_at(self, depth: Depth) -> Fraction
         ensures { result ≡ exact_at self.entry.sheet.depths.now self.entry.sheet.percents.now self.entry.curves depth.0 }
     {
@@ -316,6 +321,7 @@ impl<'a> Admitted<'a> {
     }
 
     // The percent at a depth: the exact one rounded down.
+    #[inline(always)]
     fn percent_at(self, depth: Depth) -> Percent
         ensures { result.0 ≡ percent_at self.entry.sheet.depths.now self.entry.sheet.percents.now self.entry.curves depth.0 }
     {

@@ -1,4 +1,5 @@
--- What is read, as `ok_or` and `?` take it; and a word that is read has its place in its list, so the case at that place is there.
+-- What is read, as `ok_or` and `?` take it; a word that is read has its place in its list, so the case at that place is there; and an
+-- area line of which a field says nothing.
 -- Assumes nothing.
 use Rattle.std.specs.Prelude.{Ok, Err, ok_or, Option, Some, None, ℕ, slice_get, option_map, option_and_then}
 use Rattle.std.proofs.lemmas.Option.{slice_get-get_or, some_pair_parts}
@@ -11,6 +12,7 @@ use lib.ListN.{length, drop, get_or}
 use Rattle.text.specs.declared.WordStep.{WordStep}
 use Rattle.text.specs.Words.{opens_of, word_from}
 use Rattle.job.specs.declared.Unread.{Unread}
+use Rattle.job.specs.Areas.{sub_area_from}
 use Rattle.job.specs.Inner.{told_word, told_case}
 
 -- What `ok_or` and `?` make of a line: it is read, or it is bad.
@@ -80,3 +82,21 @@ module _ {X : Type 0} (cases : List X) (d : X) (ws : List (List ℕ)) (b : ℕ) 
       pick (Some k) p h e =
           let same = some_pair_parts (get_or cases k d) x w.next next (rw (slice_get-get_or cases k d h) at e) in
           (k, (record { place = p; behind = same.1 }, same.0))
+
+-- An area line of which a field says nothing says nothing, whether that is its land use, its cover, its soil or its area.
+module _ (land cover soil area : Option ℕ) where
+  pub bad_land : land ≡ None → None ≡ sub_area_from land cover soil area
+  unfolding sub_area_from
+  bad_land e1 = rw e1
+
+  pub bad_cover : {l : ℕ} → land ≡ Some l → cover ≡ None → None ≡ sub_area_from land cover soil area
+  unfolding sub_area_from
+  bad_cover e1 e2 = rw (e1, e2)
+
+  pub bad_soil : {l c : ℕ} → land ≡ Some l → cover ≡ Some c → soil ≡ None → None ≡ sub_area_from land cover soil area
+  unfolding sub_area_from
+  bad_soil e1 e2 e3 = rw (e1, e2, e3)
+
+  pub bad_area : {l c s : ℕ} → land ≡ Some l → cover ≡ Some c → soil ≡ Some s → area ≡ None → None ≡ sub_area_from land cover soil area
+  unfolding sub_area_from
+  bad_area e1 e2 e3 e4 = rw (e1, e2, e3, e4)

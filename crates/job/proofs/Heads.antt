@@ -31,31 +31,31 @@ use Rattle.job.proofs.Fields.{line_read, line_bad}
 use Rattle.job.proofs.Valued.{LineRead, word_line, case_line, number_line}
 
 module _ (practice nutrient mode task : Option ℕ) (rate amount : Option ℕ) where
-  bad_practice : practice ≡ None → Err 1 ≡ head_from practice nutrient mode rate task amount
+  pub bad_practice : practice ≡ None → Err 1 ≡ head_from practice nutrient mode rate task amount
   unfolding head_from
   bad_practice e1 = rw e1
 
-  bad_nutrient : {p : ℕ} → practice ≡ Some p → nutrient ≡ None → Err 2 ≡ head_from practice nutrient mode rate task amount
+  pub bad_nutrient : {p : ℕ} → practice ≡ Some p → nutrient ≡ None → Err 2 ≡ head_from practice nutrient mode rate task amount
   unfolding head_from
   bad_nutrient e1 e2 = rw (e1, e2)
 
-  bad_mode : {p n : ℕ} → practice ≡ Some p → nutrient ≡ Some n → mode ≡ None → Err 3 ≡ head_from practice nutrient mode rate task amount
+  pub bad_mode : {p n : ℕ} → practice ≡ Some p → nutrient ≡ Some n → mode ≡ None → Err 3 ≡ head_from practice nutrient mode rate task amount
   unfolding head_from
   bad_mode e1 e2 e3 = rw (e1, e2, e3)
 
-  bad_rate : {p n m : ℕ} → practice ≡ Some p → nutrient ≡ Some n → mode ≡ Some m → rate ≡ None → Err 4 ≡ head_from practice nutrient mode rate task amount
+  pub bad_rate : {p n m : ℕ} → practice ≡ Some p → nutrient ≡ Some n → mode ≡ Some m → rate ≡ None → Err 4 ≡ head_from practice nutrient mode rate task amount
   unfolding head_from
   bad_rate e1 e2 e3 e4 = rw (e1, e2, e3, e4)
 
-  bad_task : {p n m r : ℕ} → practice ≡ Some p → nutrient ≡ Some n → mode ≡ Some m → rate ≡ Some r → task ≡ None → Err 5 ≡ head_from practice nutrient mode rate task amount
+  pub bad_task : {p n m r : ℕ} → practice ≡ Some p → nutrient ≡ Some n → mode ≡ Some m → rate ≡ Some r → task ≡ None → Err 5 ≡ head_from practice nutrient mode rate task amount
   unfolding head_from
   bad_task e1 e2 e3 e4 e5 = rw (e1, e2, e3, e4, e5)
 
-  bad_amount : {p n m r t : ℕ} → practice ≡ Some p → nutrient ≡ Some n → mode ≡ Some m → rate ≡ Some r → task ≡ Some t → amount ≡ None → Err 6 ≡ head_from practice nutrient mode rate task amount
+  pub bad_amount : {p n m r t : ℕ} → practice ≡ Some p → nutrient ≡ Some n → mode ≡ Some m → rate ≡ Some r → task ≡ Some t → amount ≡ None → Err 6 ≡ head_from practice nutrient mode rate task amount
   unfolding head_from
   bad_amount e1 e2 e3 e4 e5 e6 = rw (e1, e2, e3, e4, e5, e6)
 
-  head_fine : {p n m r t a : ℕ} {nutrient' : Nutrient} {mode' : Mode} {task' : Task} → practice ≡ Some p → nutrient ≡ Some n → mode ≡ Some m → rate ≡ Some r → task ≡ Some t → amount ≡ Some a → nutrient' ≡ nutrient_at n → mode' ≡ mode_at m → task' ≡ task_at t → Ok (record { practice = p; nutrient = nutrient'; mode = mode'; rate = record { 0 = r }; task = task'; amount = a }) ≡ head_from practice nutrient mode rate task amount
+  pub head_fine : {p n m r t a : ℕ} {nutrient' : Nutrient} {mode' : Mode} {task' : Task} → practice ≡ Some p → nutrient ≡ Some n → mode ≡ Some m → rate ≡ Some r → task ≡ Some t → amount ≡ Some a → nutrient' ≡ nutrient_at n → mode' ≡ mode_at m → task' ≡ task_at t → Ok (record { practice = p; nutrient = nutrient'; mode = mode'; rate = record { 0 = r }; task = task'; amount = a }) ≡ head_from practice nutrient mode rate task amount
   unfolding head_from
   head_fine e1 e2 e3 e4 e5 e6 f g h = rw (e1, e2, e3, e4, e5, e6, f, g, h)
 
@@ -88,27 +88,27 @@ told_nothing f (Some k) e = cc
 
 -- the words of the lines: none of them is empty or holds a line feed, and each list has a case for each
 module _ (s : List ℕ) (at : ℕ) where
-  practice_line : {r : Option (ℕ × ℕ)} → r ≡ told_word (word_from (pieces space practice_words) line_feed s (behind_of (bytes "practice=") s at) 0) → LineRead (word_in (lines_of (drop at s)) 0 (bytes "practice=") practice_words) s at r
+  pub practice_line : {r : Option (ℕ × ℕ)} → r ≡ told_word (word_from (pieces space practice_words) line_feed s (behind_of (bytes "practice=") s at) 0) → LineRead (word_in (lines_of (drop at s)) 0 (bytes "practice=") practice_words) s at r
   unfolding free all_free pieces joined place_from same_of
   practice_line e = word_line (bytes "practice=") s at refl (pieces space practice_words) refl refl e
 
-  nutrient_line : {r : Option (Nutrient × ℕ)} → r ≡ told_case nutrients (word_from (pieces space nutrient_words) line_feed s (behind_of (bytes "nutrient=") s at) 0) → LineRead (option_map nutrient_at (word_in (lines_of (drop at s)) 0 (bytes "nutrient=") nutrient_words)) s at r
+  pub nutrient_line : {r : Option (Nutrient × ℕ)} → r ≡ told_case nutrients (word_from (pieces space nutrient_words) line_feed s (behind_of (bytes "nutrient=") s at) 0) → LineRead (option_map nutrient_at (word_in (lines_of (drop at s)) 0 (bytes "nutrient=") nutrient_words)) s at r
   unfolding free all_free pieces joined place_from same_of
   nutrient_line e = case_line (bytes "nutrient=") s at refl (pieces space nutrient_words) refl refl nutrients P refl e
 
-  mode_line : {r : Option (Mode × ℕ)} → r ≡ told_case modes (word_from (pieces space mode_words) line_feed s (behind_of (bytes "mode=") s at) 0) → LineRead (option_map mode_at (word_in (lines_of (drop at s)) 0 (bytes "mode=") mode_words)) s at r
+  pub mode_line : {r : Option (Mode × ℕ)} → r ≡ told_case modes (word_from (pieces space mode_words) line_feed s (behind_of (bytes "mode=") s at) 0) → LineRead (option_map mode_at (word_in (lines_of (drop at s)) 0 (bytes "mode=") mode_words)) s at r
   unfolding free all_free pieces joined place_from same_of
   mode_line e = case_line (bytes "mode=") s at refl (pieces space mode_words) refl refl modes Step refl e
 
-  task_line : {r : Option (Task × ℕ)} → r ≡ told_case tasks (word_from (pieces space task_words) line_feed s (behind_of (bytes "task=") s at) 0) → LineRead (option_map task_at (word_in (lines_of (drop at s)) 0 (bytes "task=") task_words)) s at r
+  pub task_line : {r : Option (Task × ℕ)} → r ≡ told_case tasks (word_from (pieces space task_words) line_feed s (behind_of (bytes "task=") s at) 0) → LineRead (option_map task_at (word_in (lines_of (drop at s)) 0 (bytes "task=") task_words)) s at r
   unfolding free all_free pieces joined place_from same_of
   task_line e = case_line (bytes "task=") s at refl (pieces space task_words) refl refl tasks Load refl e
 
-  rate_line : {r : Option (ℕ × ℕ)} → r ≡ counted_at s (behind_of (bytes "rate=") s at) → LineRead (number_in (lines_of (drop at s)) 0 (bytes "rate=")) s at r
+  pub rate_line : {r : Option (ℕ × ℕ)} → r ≡ counted_at s (behind_of (bytes "rate=") s at) → LineRead (number_in (lines_of (drop at s)) 0 (bytes "rate=")) s at r
   unfolding free
   rate_line e = number_line (bytes "rate=") s at refl e
 
-  amount_line : {r : Option (ℕ × ℕ)} → r ≡ counted_at s (behind_of (bytes "amount=") s at) → LineRead (number_in (lines_of (drop at s)) 0 (bytes "amount=")) s at r
+  pub amount_line : {r : Option (ℕ × ℕ)} → r ≡ counted_at s (behind_of (bytes "amount=") s at) → LineRead (number_in (lines_of (drop at s)) 0 (bytes "amount=")) s at r
   unfolding free
   amount_line e = number_line (bytes "amount=") s at refl e
 

@@ -104,7 +104,7 @@ module _ (s : List ℕ) (at : ℕ) {end : ℕ} (e : end ≡ next_of line_feed s 
       let l = length-drop at s in
       rw (le-ltb (index_of line_feed (drop at s)) (length (drop at s)) (omega arith))
 
-  number_ended : {v : List ℕ} → end < length s → v ≡ part_of s at end → option_map (λ n. (n, end + 1)) (numeral_of v) ≡ counted_at s at
+  pub number_ended : {v : List ℕ} → end < length s → v ≡ part_of s at end → option_map (λ n. (n, end + 1)) (numeral_of v) ≡ counted_at s at
   unfolding counted_at part_of
   number_ended {v} h p =
       let t = drop at s in

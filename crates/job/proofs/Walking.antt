@@ -86,7 +86,7 @@ module _ (job : Job) (s : List ℕ) (from : ℕ) where
   walked_none e = rw e (record { within = omega arith; memory = record { parts = refl; numbers = refl }; fine = empty_judged; decides = refl })
 
   module _ (at line : ℕ) (site : Site) (total : Area) (w : Walked job s from at line site total) where
-    walked_end : length s ≤ at → ended_at job [] line site ≡ areas_from job (lines_of (drop from s)) 7 empty_site
+    pub walked_end : length s ≤ at → ended_at job [] line site ≡ areas_from job (lines_of (drop from s)) 7 empty_site
     unfolding areas_from pieces
     walked_end h = rw (drop_of_length-le s h) at w.decides
 

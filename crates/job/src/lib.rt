@@ -5,7 +5,7 @@ ghost use Rattle.std.specs.Prelude.{◌≡◌};
 ghost use Rattle.std.proofs.Common.{rules};
 ghost use Rattle.text.specs.Part.{Part};
 ghost use Rattle.job.specs.Tasks.{tasks, task_place};
-ghost use Rattle.job.specs.Reading.{reading_of};
+ghost use Rattle.job.specs.Reading.{reading_of, site_read};
 ghost use Rattle.job.specs.Fault.{line_span, fault_of};
 
 use curve::Mode;
@@ -101,6 +101,16 @@ pub fn read(text: &[u8]) -> Result<Reading, Unread>
     }
     let (job, at) = head::read_head(text)?;
     areas::read_areas(job, text, at)
+}
+
+// The site that stands beside what a text says: that of its job, and the empty one beside a refusal.
+pub fn site_beside(text: &[u8]) -> Site
+    ensures { result ≡ site_read (reading_of text.now) }
+{
+    match read(text) {
+        Ok(reading) => reading.site,
+        Err(_) => Site::empty(),
+    }
 }
 
 // Where the offending line of a text that is refused 1 lies, without its line feed; the end of any other text.

@@ -1,4 +1,5 @@
--- Our text in a buffer of the longest text's length: it always fits, by what `answer::write` ensures of every text.
+-- Our text in a buffer of the longest text's length: it always fits, by what `answer::write` ensures of every text, since an outcome in
+-- memory has numbers of 64 bits (`kept_wide`).
 -- Assumes nothing.
 use Rattle.std.specs.Prelude.{Result, ℕ}
 use Rattle.refusal.specs.declared.Refusal.{Refusal}
@@ -12,6 +13,7 @@ use Rattle.writing.specs.Writing.{written_of, buffer_of, written_given}
 use Rattle.answer.specs.Outcomes.{Outcome}
 use Rattle.answer.specs.Lines.{answer_text, longest}
 use Rattle.answer.proofs.Promises.{only_too_short, granted_holds}
+pub use Rattle.answer.proofs.InMemory.{kept_wide}
 
 module _ (o : Outcome) (short : length (answer_text o) ≤ longest) (blank : List ℕ) (room : longest ≤ length blank) where
   module _ {buf : List ℕ} {written : Result ℕ Refusal} {n : ℕ}

@@ -1,8 +1,9 @@
 -- Laws of the test of a sheet's lengths.
 -- Assumes nothing.
-use Prim.Native.Nat.{ℕ, ◌*◌, ◌≤◌}
+use Prim.Native.Nat.{ℕ, ◌*◌, ◌%◌, ◌≤◌}
 use mathlib.Core.Bool.{true, ◌&&◌}
 use mathlib.Core.Path.{◌≡◌}
+use native.Mathlib.Nat.{mul-mod_left}
 use lib.Dec.{leb, eqb}
 use borrow.Author.Tests.{leb-true, eqb-true}
 use Rattle.laws.proofs.And.{and_left, and_right}
@@ -21,3 +22,10 @@ lengths_kept d r p e =
       leb-true r most_rates (and_right (leb 1 d && leb d most_depths && leb 1 r) (leb r most_rates) f₃),
       eqb-true p (r * d) (and_right (leb 1 d && leb d most_depths && leb 1 r && leb r most_rates) (eqb p (r * d)) e),
     )
+
+-- Where the lengths fit there is a depth, and the percents are whole rows.
+pub some_depths : (d r p : ℕ) → lengths_fit d r p ≡ true → 1 ≤ d
+some_depths d r p e = (lengths_kept d r p e).0
+
+pub whole_rows : (d r p : ℕ) → lengths_fit d r p ≡ true → p % d ≡ 0
+whole_rows d r p e = rw ((lengths_kept d r p e).4) (mul-mod_left r d)

@@ -1,4 +1,4 @@
-pub mod Finding
+pub mod Carrying
 pub mod Lengths
 pub mod Verdicts
 pub mod Rules

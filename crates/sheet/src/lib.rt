@@ -1,8 +1,8 @@
 // Rules, "Curve sheets": the test of a sheet, lent as its depths, its rates, and its percents rate by rate.
 #![tactic(auto)]
 
-ghost use Rattle.std.specs.Prelude.{◌≡◌, ◌*◌, ◌%◌, eqb, length};
-ghost use Rattle.sheet.specs.Sheet.{previous, in_step, offending, lengths_fit, offending_rate, without_rates, found, part_number, verdict_of};
+ghost use Rattle.std.specs.Prelude.{◌≡◌, ◌≤◌, ◌*◌, ◌%◌, eqb, length};
+ghost use Rattle.sheet.specs.Sheet.{previous, in_step, offending, lengths_fit, offending_rate, offending_percent, without_rates, found, part_number, verdict_of};
 
 use units::Depth;
 
@@ -76,11 +76,32 @@ fn in_step(gap: u64, most: u64, low: u64, x: u64) -> bool
     x <= most && low <= x && gap <= x - low
 }
 
-// The first place in rows of n whose number is not in step.
-fn offending(xs: &[u64], n: usize, gap: u64, most: u64) -> Option<usize>
-    ensures { result ≡ found (offending xs.now n gap most) (length xs.now) }
+// The first place of a row whose number is not in step. The walk carries the number before.
+fn offending(xs: &[u64], gap: u64, most: u64) -> Option<usize>
+    ensures { result ≡ found (offending xs.now (length xs.now) gap most) (length xs.now) }
 {
-    (0..xs.len()).find(|&k| !in_step(gap, most, previous(xs, n, k), xs[k]))
+    let mut low = 0;
+    for (k, &x) in xs.iter().enumerate() {
+        if !in_step(gap, most, low, x) {
+            return Some(k);
+        }
+        low = x;
+    }
+    None
+}
+
+// The first percent out of step, row by row of n.
+fn offending_percent(percents: &[u64], n: usize) -> Option<usize>
+    requires some { 1 ≤ n }
+    requires whole { length percents.now % n ≡ 0 }
+    ensures { result ≡ found (offending_percent n percents.now) (length percents.now) }
+{
+    for (j, row) in percents.chunks_exact(n).enumerate() {
+        if let Some(place) = offending(row, 0, units::MOST_PERCENT) {
+            return Some(j * n + place);
+        }
+    }
+    None
 }
 
 // 1 to 16 depths, 1 to 8 rates, and one percent for each rate at each depth.
@@ -103,7 +124,7 @@ fn offending_rate(rates: &[u64]) -> Option<usize>
     if without_rates(rates) {
         return None;
     }
-    offending(rates, rates.len(), 1, units::MOST_RATE)
+    offending(rates, 1, units::MOST_RATE)
 }
 
 // Whether there is the single rate 0, which a practice without rates has.
@@ -116,7 +137,7 @@ pub fn without_rates(rates: &[u64]) -> bool
 
 impl Sheet<'_> {
     // The verdict on a sheet: its lengths, then its depths, its rates and its percents.
-    #[tactic(auto, unfolding(crate::specs::Sheet::verdict_of))]
+    #[tactic(auto, using(crate::proofs::Lengths::some_depths, crate::proofs::Lengths::whole_rows), unfolding(crate::specs::Sheet::verdict_of))]
     pub fn judge(self) -> Result<(), Fault>
         ensures { result ≡ verdict_of self.entry.depths.now self.entry.rates.now self.entry.percents.now }
     {
@@ -127,7 +148,7 @@ impl Sheet<'_> {
                 place: 0,
             });
         }
-        if let Some(place) = offending(self.depths, n, 1, Depth::HIGHEST) {
+        if let Some(place) = offending(self.depths, 1, Depth::HIGHEST) {
             return Err(Fault {
                 part: Part::Depths,
                 place,
@@ -139,7 +160,7 @@ impl Sheet<'_> {
                 place,
             });
         }
-        if let Some(place) = offending(self.percents, n, 0, units::MOST_PERCENT) {
+        if let Some(place) = offending_percent(self.percents, n) {
             return Err(Fault {
                 part: Part::Percents,
                 place,

@@ -1,13 +1,14 @@
 -- Texts compared byte by byte.
 -- Assumes nothing.
-use Prim.Native.Nat.{ℕ, suc, ◌+◌}
+use Prim.Native.Nat.{ℕ, zero, suc, ◌+◌, min}
 use mathlib.Core.Path.{◌≡◌, refl, sym, ◌∙◌, ap}
 use mathlib.Core.Bool.{Bool, true, false, cond, ◌&&◌}
 use mathlib.Core.List.{List, [], ◌∷◌}
 use native.Mathlib.Omega.{arith}
 use lib.Dec.{eqb}
-use lib.ListN.{length}
+use lib.ListN.{length, take}
 use lib.Pointwise.{pointwise}
+use lib.Seq.{take-nil}
 use borrow.Author.Tests.{eq-eqb, ne_eqb, eqb-true}
 use Rattle.std.specs.List.{zip, prefix_len, take_while}
 use Rattle.std.proofs.lemmas.List.Folds.{length-prefix_len}
@@ -79,3 +80,17 @@ agreed_pairs (x ∷ s) (y ∷ t) = at (eqb x y) (agreed_pairs s t)
 
 pub agreed_taken : (s t : List ℕ) {n : ℕ} → n ≡ length (take_while (λ (p : ℕ × ℕ). eqb p.0 p.1) (zip s t)) → n ≡ length (agreed_of s t)
 agreed_taken s t e = e ∙ length-prefix_len (λ (p : ℕ × ℕ). eqb p.0 p.1) (zip s t) ∙ sym (agreed_pairs s t)
+
+-- the pairs of two texts are those of both cut to the length of the shorter
+pairs_within : (s t : List ℕ) (n : ℕ) → n ≡ min (length s) (length t) → zip (take n s) (take n t) ≡ zip s t
+pairs_within [] t n h = rw (take-nil n)
+pairs_within (x ∷ s) [] zero h = refl
+pairs_within (x ∷ s) [] (suc n) h = refl
+pairs_within (x ∷ s) (y ∷ t) zero h = absurd (omega arith)
+pairs_within (x ∷ s) (y ∷ t) (suc n) h = ap (λ (r : List (ℕ × ℕ)). (x, y) ∷ r) (pairs_within s t n (omega arith))
+
+pub taken_within : (s t : List ℕ) {both n : ℕ} → both ≡ min (length s) (length t)
+    → n ≡ length (take_while (λ (p : ℕ × ℕ). eqb p.0 p.1) (zip (take both s) (take both t)))
+    → n ≡ length (take_while (λ (p : ℕ × ℕ). eqb p.0 p.1) (zip s t))
+taken_within s t {both} h e =
+    e ∙ ap (λ (r : List (ℕ × ℕ)). length (take_while (λ (p : ℕ × ℕ). eqb p.0 p.1) r)) (pairs_within s t both h)

@@ -1,6 +1,6 @@
 -- What stands at the front of a text: a key, or a word with the byte that ends it.
 -- Assumes nothing.
-use Prim.Native.Nat.{ℕ, suc, ◌+◌, ◌-◌, ◌≤◌}
+use Prim.Native.Nat.{ℕ, suc, ◌+◌, ◌-◌, ◌≤◌, ◌<◌}
 use mathlib.Core.Path.{◌≡◌, refl, sym, ◌∙◌, ap}
 use mathlib.Core.Bool.{Bool, true, false, cond, ◌&&◌}
 use mathlib.Core.List.{List, [], ◌∷◌, ◌++◌}
@@ -32,6 +32,10 @@ module _ (s key : List ℕ) (at : ℕ) where
       ∙ pointwise_same (take (length key) t) key
       ∙ ap (λ (u : List ℕ). same_of (take (length key) u) key) (e ∙ part_tail s at)
       ∙ ap (λ (u : List ℕ). same_of u key) (sym (part_head (drop at s) (length key)))
+
+  -- what opens the text from a place on stands there
+  pub opens_there : {t : List ℕ} {r : Bool} → t ≡ part_of s at (length s) → r ≡ opens_of key t → r ≡ opens_of key (drop at s)
+  opens_there e f = f ∙ ap (opens_of key) (e ∙ part_tail s at)
 
   -- a key that stands at a place ends no further than the end of s, unless it was sought behind it
   pub stands_within : {opened : Bool} → opened ≡ opens_of key (drop at s) → opened ≡ true → length key ≤ length s - at
@@ -89,7 +93,7 @@ free_ended c b (x ∷ w) f e =
     rw p.0 (free_ended c b w p.1 e)
 
 -- the same test, byte by byte
-unfoldable front : List ℕ → List ℕ → Bool
+unfoldable pub front : List ℕ → List ℕ → Bool
 front [] t = true
 front (y ∷ w) [] = false
 front (y ∷ w) (x ∷ t) = eqb x y && front w t
@@ -102,6 +106,49 @@ opens_front w t = rw (part_head t (length w)) (go w t)
     go [] t = refl
     go (y ∷ w) [] = refl
     go (y ∷ w) (x ∷ t) = ap (λ (b : Bool). eqb x y && b) (go w t)
+
+-- a text that is shorter than the key does not open with it
+pub opens_short : (key t : List ℕ) → length t < length key → false ≡ opens_of key t
+unfolding front
+opens_short key t h = go key t h ∙ sym (opens_front key t)
+  where
+    go : (w t : List ℕ) → length t < length w → false ≡ front w t
+    go [] t h = absurd (omega arith)
+    go (y ∷ w) [] h = refl
+    go (y ∷ w) (x ∷ t) h = both (eqb x y) (go w t (omega arith))
+      where
+        both : (b : Bool) → false ≡ front w t → false ≡ b && front w t
+        both true h = h
+        both false h = refl
+
+-- a comparison from the front on has passed i bytes that are the same
+pub record Opening (key t : List ℕ) (i : ℕ) : Type 0 where
+  pub room : length key ≤ length t
+  pub rest : front (drop i key) (drop i t) ≡ opens_of key t
+
+module _ {key t : List ℕ} where
+  pub opening_none : length key ≤ length t → Opening key t 0
+  opening_none h = record { room = h; rest = sym (opens_front key t) }
+
+  module _ {i : ℕ} (o : Opening key t i) where
+    pub opening_not : i < length key → (get_or t i 0 ≡ get_or key i 0 → ⊥) → false ≡ opens_of key t
+    unfolding front
+    opening_not h ne =
+        simp (drop-cons key i 0 h, drop-cons t i 0 (let l = o.room in omega arith), ne_eqb (get_or t i 0) (get_or key i 0) ne) at o.rest
+
+    pub opening_next : i < length key → get_or t i 0 ≡ get_or key i 0 → Opening key t (i + 1)
+    unfolding front
+    opening_next h e =
+        record {
+          room = o.room;
+          rest =
+              rw add-one
+              (simp (drop-cons key i 0 h, drop-cons t i 0 (let l = o.room in omega arith), eq-eqb (get_or t i 0) (get_or key i 0) e) at o.rest);
+        }
+
+    pub opening_all : length key ≤ i → true ≡ opens_of key t
+    unfolding front
+    opening_all h = rw (drop_of_length-le key h) at o.rest
 
 -- what stands before the first c, which the key does not hold, opens with the key where the text does
 front_cut : (c : ℕ) (w t : List ℕ) → free c w ≡ true → front w (take (index_of c t) t) ≡ front w t

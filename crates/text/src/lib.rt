@@ -60,15 +60,17 @@ pub fn start(s: &[u8], b: u8, k: usize) -> usize
     from
 }
 
-// How many bytes two texts have in common from their start.
+// How many bytes two texts have in common from their start. Both are cut to the length of the shorter, so that a turn has one end to test.
 pub fn agreed(s: &[u8], t: &[u8]) -> usize
     ensures { result ≡ length (agreed_of s.now t.now) }
 {
-    s.iter().zip(t).take_while(|(x, y)| x == y).count()
+    let both = s.len().min(t.len());
+    let pairs = s[..both].iter().zip(&t[..both]);
+    pairs.take_while(|(x, y)| x == y).count()
 }
 
 // The key stands in s at a place.
-#[tactic(auto, using(crate::proofs::Front::stands_there))]
+#[tactic(auto, using(crate::proofs::Front::stands_there, crate::proofs::Front::opens_there))]
 fn stands(s: &[u8], at: usize, key: &[u8]) -> bool
     ensures { result ≡ opens_of key.now (drop at s.now) }
 {
@@ -88,11 +90,28 @@ pub fn behind(s: &[u8], at: usize, key: &[u8]) -> usize
     }
 }
 
+// s opens with a word. A loop, and not the library's starts_with, which the compiler leaves a call at the words of a list: this one is
+// folded into the reading of each list.
+#[tactic(auto, using(crate::proofs::Front::opens_short, crate::proofs::Front::opening_none, crate::proofs::Front::opening_not, crate::proofs::Front::opening_next, crate::proofs::Front::opening_all))]
+fn opens(s: &[u8], word: &[u8]) -> bool
+    ensures { result ≡ opens_of word.now s.now }
+{
+    if s.len() < word.len() {
+        return false;
+    }
+    for (i, x) in word.iter().enumerate() {
+        if s[i] != *x {
+            return false;
+        }
+    }
+    true
+}
+
 // A word stands in s at a place, with the byte that ends it behind it.
 fn ends(s: &[u8], at: usize, word: &[u8], end: u8) -> bool
     ensures { result ≡ opens_of (word.now ++ (end ∷ [])) (drop at s.now) }
 {
-    stands(s, at, word) && s.get(at + word.len()) == Some(&end)
+    opens(part(s, at, s.len()), word) && s.get(at + word.len()) == Some(&end)
 }
 
 // No word of a list stands there.

@@ -1,4 +1,5 @@
 pub mod Writing
+pub mod Copying
 pub mod Digits
 pub mod Rest
 pub mod Adding

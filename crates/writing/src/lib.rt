@@ -23,7 +23,7 @@ pub fn width(n: u64) -> usize
 
 // Puts a text at the start of buf and answers its length, or 0 where buf is shorter, which then stays as it was: put_length says 0, of an
 // empty text too, and so there is no Option. get_mut in place of the test would lose to the proof what stands behind the part.
-#[tactic(auto, using(crate::proofs::Writing::refused_length, crate::proofs::Writing::refused_buffer, crate::proofs::Writing::part_buffer, crate::proofs::Writing::granted_length))]
+#[tactic(auto, using(crate::proofs::Writing::refused_length, crate::proofs::Writing::refused_buffer, crate::proofs::Copying::copied_none, crate::proofs::Copying::copied_next, crate::proofs::Copying::copied_length, crate::proofs::Copying::copied_buffer))]
 pub fn put(s: &[u8], buf: &mut [u8]) -> usize
     ensures value { result ≡ put_length buf.old s.now }
     ensures buf_after { buf.new ≡ buffer_of buf.old s.now }
@@ -31,7 +31,9 @@ pub fn put(s: &[u8], buf: &mut [u8]) -> usize
     if buf.len() < s.len() {
         return 0;
     }
-    buf[..s.len()].copy_from_slice(s);
+    for (at, byte) in s.iter().enumerate() {
+        buf[at] = *byte;
+    }
     s.len()
 }
 
@@ -76,18 +78,24 @@ pub fn put_number(n: u64, buf: &mut [u8]) -> usize
     digits
 }
 
-// A key, a number and the byte that ends it, in one.
-#[tactic(auto, using(crate::proofs::Ended::no_room_length, crate::proofs::Ended::no_room_buffer, crate::proofs::Ended::ended_length, crate::proofs::Ended::ended_part))]
+// A key, a number and the byte that ends it, in one. The digits are put first, into what is left behind the room for the key and before
+// that for the last byte: there is at least one, and none is put where they do not fit.
+#[tactic(auto, using(crate::proofs::Ended::short_length, crate::proofs::Ended::short_buffer, crate::proofs::Ended::unput_length, crate::proofs::Ended::unput_buffer, crate::proofs::Digits::some_digit, crate::proofs::Ended::put_fits, crate::proofs::Ended::put_inside, crate::proofs::Ended::end_fits, crate::proofs::Ended::put_length_told, crate::proofs::Ended::put_buffer_told))]
 fn put_ended_number(key: &[u8], n: u64, end: u8, buf: &mut [u8]) -> usize
     ensures value { result ≡ put_length buf.old (key.now ++ decimal_of n ++ (end ∷ [])) }
     ensures buf_after { buf.new ≡ buffer_of buf.old (key.now ++ decimal_of n ++ (end ∷ [])) }
 {
-    let last = key.len() + width(n);
-    if buf.len() <= last {
+    let value = key.len();
+    let room = buf.len();
+    if room <= value {
         return 0;
     }
-    buf[..key.len()].copy_from_slice(key);
-    fill(n, &mut buf[key.len()..last]);
+    let digits = put_number(n, &mut buf[value..room - 1]);
+    if digits == 0 {
+        return 0;
+    }
+    put(key, &mut buf[..value]);
+    let last = value + digits;
     buf[last] = end;
     last + 1
 }
@@ -98,13 +106,13 @@ fn put_ended_word(key: &[u8], words: &[&[u8]], k: usize, end: u8, buf: &mut [u8]
     ensures value { result ≡ put_length buf.old (key.now ++ word_at (map (λ w. w.now) words.now) k ++ (end ∷ [])) }
     ensures buf_after { buf.new ≡ buffer_of buf.old (key.now ++ word_at (map (λ w. w.now) words.now) k ++ (end ∷ [])) }
 {
-    let word = word(words, k);
-    let last = key.len() + word.len();
+    let value = key.len();
+    let last = value + word(words, k).len();
     if buf.len() <= last {
         return 0;
     }
-    buf[..key.len()].copy_from_slice(key);
-    buf[key.len()..last].copy_from_slice(word);
+    put(key, &mut buf[..value]);
+    put_word(words, k, &mut buf[value..last]);
     buf[last] = end;
     last + 1
 }
