@@ -266,8 +266,8 @@ struct Admitted<'a> {
     ghost chosen: { curves ≡ curves_of sheet.rates.now mode rate.0 } by { Coded-set curves-code curves (curves_of sheet.rates.now mode rate.0) },
 }
 
-// What each of the eight trials of `least` calls is inlined, `Spot::by_two` too, and so is the admission: an admitted sheet that is passed
-// by value would be copied at each trial, and how long its lists are at most would no longer be known there.
+// The admission, `exact_at`, `percent_at` and `Spot::by_two` are always inlined: else an admitted sheet, which is passed by value, is copied
+// at each of the eight trials of `least`, and how long its lists are at most is no longer known there.
 impl<'a> Admitted<'a> {
     // Tries 5, 6 and 7.
     #[inline(always)]

@@ -69,7 +69,7 @@ pub fn agreed(s: &[u8], t: &[u8]) -> usize
     pairs.take_while(|(x, y)| x == y).count()
 }
 
-// The key stands in s at a place.
+// The key stands in s at a place. Keys are constants, for which the compiler folds starts_with; the words of a list are compared by opens.
 #[tactic(auto, using(crate::proofs::Front::stands_there, crate::proofs::Front::opens_there))]
 fn stands(s: &[u8], at: usize, key: &[u8]) -> bool
     ensures { result ≡ opens_of key.now (drop at s.now) }

@@ -22,7 +22,8 @@ pub fn width(n: u64) -> usize
 }
 
 // Puts a text at the start of buf and answers its length, or 0 where buf is shorter, which then stays as it was: put_length says 0, of an
-// empty text too, and so there is no Option. get_mut in place of the test would lose to the proof what stands behind the part.
+// empty text too, and so there is no Option. Byte by byte, since the library's copy can become a call of memmove, for which the archive
+// for C would have to ask.
 #[tactic(auto, using(crate::proofs::Writing::refused_length, crate::proofs::Writing::refused_buffer, crate::proofs::Copying::copied_none, crate::proofs::Copying::copied_next, crate::proofs::Copying::copied_length, crate::proofs::Copying::copied_buffer))]
 pub fn put(s: &[u8], buf: &mut [u8]) -> usize
     ensures value { result ≡ put_length buf.old s.now }
